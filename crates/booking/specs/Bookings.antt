@@ -35,7 +35,7 @@ Extent = ℤ × ℕ × Bool × ℕ
 pub data Answer : Type 0 where
   Done : Answer
   Word : ℕ → Answer
-  Row : List ℕ → Answer
+  Words : List ℕ → Answer
   Spans : Option Extent → Answer
 
 pub data Reply : Type 0 where

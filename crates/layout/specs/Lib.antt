@@ -1,0 +1,11 @@
+pub mod Arrangement
+pub mod Words
+pub mod Gaps
+pub mod Placement
+pub mod Places
+pub mod Rearranged
+pub mod Held
+pub mod Sound
+pub mod Holds
+pub mod Keeping
+pub mod Lawful

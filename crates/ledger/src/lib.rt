@@ -1,0 +1,1 @@
+pub fn todo() -> u8 { 0 }
