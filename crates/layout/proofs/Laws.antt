@@ -2,10 +2,10 @@
 use mathlib.Core.Path.{_≡_, refl, sym, _∙_, ap, subst}
 use mathlib.Core.List.{List}
 use mathlib.Core.Bool.{Bool, true, false, cond, not}
-use Prim.Native.Nat.{ℕ, _+_, _^_, _<_, _≤_}
+use Prim.Native.Nat.{ℕ, _+_, _*_, _^_, _<_, _≤_}
 use native.Mathlib.Omega.{arith}
 use lib.Dec.{T, ltb, ltb→lt, nltb→le}
-use lib.ListN.{length}
+use lib.ListN.{length, getD}
 use mathlib.Core.Logic.{_↔_}
 use Rattle.booking.specs.Bookings.{Answer, Booking, Deed, Delete, Done, Exchange, Free, Insert, Read, Rebase, Reply, Row-read, Row-write, Span, Take, Write, granted, refused}
 use Rattle.booking.specs.Traces.{subscripts}
@@ -17,11 +17,14 @@ use Rattle.layout.specs.Gaps.{Fit, combined, first-fit, gap-at, no-gap}
 use Rattle.layout.specs.Held.{held-trees}
 use Rattle.layout.specs.Holds.{Displays, Holds}
 use Rattle.layout.specs.Keeping.{arrangement-of, called, made, tidied}
-use Rattle.layout.specs.Lawful.{Determined, Lawful}
+use Rattle.layout.specs.Determined.{Determined}
+use Rattle.layout.specs.Lawful.{Lawful}
+use Rattle.layout.specs.Refines.{Refines}
 use Rattle.layout.specs.Placement.{Found, closed-up, found-or}
 use Rattle.layout.specs.Rearranged.{as-made, freed, if-granted, rearranged, stored}
 use Rattle.layout.specs.Sound.{Sound}
-use Rattle.layout.specs.Words.{words-of}
+use Rattle.layout.specs.Words.{first-of, total, words-of}
+use Rattle.codeword.specs.Codeword.{field}
 use Rattle.ledger.specs.Ledger.{book}
 use Rattle.ledger.specs.Needs.{needs, released, releases, weight-at}
 use Rattle.ledger.specs.Trees.{Trees, free, no-trees, tree-of}
@@ -30,7 +33,7 @@ use Rattle.ledger.proofs.Asked.{ask-asks}
 use Rattle.layout.proofs.Refine.{refines, tidy-leaves-trees, total-is-free}
 use Rattle.layout.proofs.Order.{ordered}
 use Rattle.layout.proofs.Written.{words-shown}
-use Rattle.layout.proofs.Decode.{told, trees-told}
+use Rattle.layout.proofs.Decode.{told, total-within, trees-told}
 use Rattle.layout.proofs.Change.{At-trace}
 use Rattle.layout.proofs.Doors.{Legal, ask-past, granted-past}
 use Rattle.layout.proofs.Kept.{made-sound, closed-up-sound, write-sound, row-write-sound, rebase-sound, exchange-sound, freed-sound, delete-sound}
@@ -185,6 +188,17 @@ call-refused ws b r h e =
     ∙ ap words-of (left-alone (book (A .count) (trees A) b .0) r A (rearranged (b .trace) (b .deed) A) said)
     ∙ sym (one-list A (h .sound) ws (h .shown))
 
+low-field : (w t f : ℕ) → w ≡ t + 2 ^ 18 * f → t < 2 ^ 18 → field 0 18 w ≡ t
+low-field w t f e h = omega arith
+
+header-is-free : (ws : List ℕ) → Holds ws → field 0 18 (getD ws 0 0) ≡ free (length ws) (held-trees ws)
+header-is-free ws h =
+    let A = h .arrangement in
+    low-field (getD ws 0 0) (total (A .gaps)) (first-of (A .gaps)) (h .shown .header) (omega (arith, total-within A (h .sound), h .sound .most))
+    ∙ sym (total-is-free A (ordered A (h .sound .least) (h .sound .tiled)))
+    ∙ ap (λ (n : ℕ). free n (trees A)) (sym (h .shown .count))
+    ∙ ap (free (length ws)) (sym (trees-told ws A (h .sound) (h .shown)))
+
 pub lawful : Lawful
 lawful = record {
   make-refused = make-refused;
@@ -199,16 +213,32 @@ lawful = record {
   tidy-holds = λ ws h. tidy-keeps ws h .holds;
   tidy-count = λ ws h. tidy-keeps ws h .count;
   tidy-trees = λ ws h. tidy-keeps ws h .trees-are;
+  total-is-free = header-is-free;
 }
 
+-- a call has left the words asked for when they display the arrangement asked for
+pub call-left : (ws us : List ℕ) (A : Arrangement) (b : Booking) → Sound A → Displays ws A → Displays us (stored A b .1) → us ≡ called ws b .1
+unfolding called
+call-left ws us A b o s u =
+    one-list (stored A b .1) (stored-sound A o b) us u ∙ ap (λ (X : Arrangement). words-of (stored X b .1)) (sym (told ws A o s))
+
+pub tidy-left : (ws us : List ℕ) (A : Arrangement) → Sound A → Displays ws A → Displays us (closed-up A) → us ≡ tidied ws
+unfolding tidied
+tidy-left ws us A o s u =
+    one-list (closed-up A) (closed-up-sound A o) us u ∙ ap (λ (X : Arrangement). words-of (closed-up X)) (sym (told ws A o s))
+
 pub determined : Determined
-unfolding called tidied
-determined = record {
-  shown = words-shown;
-  one-list = one-list;
-  one-arrangement = told;
-  call-left = λ ws us A b o s u.
-      one-list (stored A b .1) (stored-sound A o b) us u ∙ ap (λ (X : Arrangement). words-of (stored X b .1)) (sym (told ws A o s));
-  tidy-left = λ ws us A o s u.
-      one-list (closed-up A) (closed-up-sound A o) us u ∙ ap (λ (X : Arrangement). words-of (closed-up X)) (sym (told ws A o s));
+determined = record { shown = words-shown; one-list = one-list; one-arrangement = told }
+
+gaps-are-free : (A : Arrangement) → Sound A → total (A .gaps) ≡ free (A .count) (trees A)
+gaps-are-free A o = sym (total-is-free A (ordered A (o .least) (o .tiled)))
+
+pub refined : Refines
+refined = record {
+  reply = λ A b. refl;
+  step = refines;
+  step-sound = stored-sound;
+  tidy = tidy-leaves-trees;
+  tidy-sound = closed-up-sound;
+  total-is-free = gaps-are-free;
 }

@@ -16,3 +16,4 @@ pub mod Kept
 pub mod Taken
 pub mod Grown
 pub mod Laws
+pub mod Shown

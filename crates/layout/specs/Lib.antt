@@ -8,4 +8,7 @@ pub mod Held
 pub mod Sound
 pub mod Holds
 pub mod Keeping
+pub mod Determined
+pub mod Refines
 pub mod Lawful
+pub mod Figures

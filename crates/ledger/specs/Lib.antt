@@ -5,3 +5,4 @@ pub mod Deeds
 pub mod Ledger
 pub mod Needs
 pub mod Runs
+pub mod Laws

@@ -1,1 +1,14 @@
-pub fn todo() -> u8 { 0 }
+// Trees under names, and what each booking answers and changes. The crate is definitions and their laws; each function stands for one law.
+ghost use Rattle.ledger.specs.Laws.{«Room-is-exact», «Larger-grants-alike»};
+
+/// Past every earlier door, a booking is refused for room exactly when there is none.
+pub fn room_is_exact()
+    ensures { λ _. ⌜ «Room-is-exact» ⌝ }
+{
+}
+
+/// What a ledger grants, one of a larger count grants alike.
+pub fn larger_grants_alike()
+    ensures { λ _. ⌜ «Larger-grants-alike» ⌝ }
+{
+}
