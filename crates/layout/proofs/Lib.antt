@@ -17,3 +17,6 @@ pub mod Taken
 pub mod Grown
 pub mod Laws
 pub mod Shown
+pub mod Signs
+pub mod Gone
+pub mod Place
