@@ -1,3 +1,4 @@
 pub mod Refusals
 pub mod Traces
+pub mod Kinds
 pub mod Bookings

@@ -5,6 +5,8 @@ ghost use mathlib.Core.Path.{_≡_};
 
 mod steps;
 
+pub use steps::RefusalFromDown;
+
 /// A name, 1 to 64, and at most three subscripts; those not used are 0. A trace is moved and never copied.
 #[derive(Drop)]
 pub struct Trace {

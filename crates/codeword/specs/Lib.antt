@@ -1,1 +1,2 @@
 pub mod Codeword
+pub mod Lawful

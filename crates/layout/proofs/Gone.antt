@@ -45,3 +45,11 @@ module _ (w : ℕ) (i : ℤ) (j : ℕ) where
     gone-table q =
         cond-false _ _ _ (ne-eqb w 0 some) ∙ cond-true _ _ _ (sym (ap (λ (z : Codeword). z .r) is) ∙ q)
         ∙ sym (ap (λ (c : Codeword). and-then (chosen c i j) (λ k. Ok (c .first + k))) is)
+
+    module _ (table : c .r ≡ true) (z : ℤ) (same : z ≡ i) where
+      -- a subscript within the block, and one outside it
+      pub gone-to : (k : ℕ) → Ok k ≡ chosen c z j → Ok (c .first + k) ≡ gone-down w i j
+      gone-to k e = sym (gone-table table ∙ through-ok _ _ k (e ∙ ap (λ (x : ℤ). chosen c x j) same))
+
+      pub gone-off : (r : Refusal) → Err r ≡ chosen c z j → Err r ≡ gone-down w i j
+      gone-off r e = sym (gone-table table ∙ through-err _ _ r (e ∙ ap (λ (x : ℤ). chosen c x j) same))

@@ -41,7 +41,7 @@ covers-first y a n =
       ]
     ]
 
-hits-++ : (y : ℕ) (xs ys : List Cell) → hits y (xs ++ ys) ≡ hits y xs + hits y ys
+pub hits-++ : (y : ℕ) (xs ys : List Cell) → hits y (xs ++ ys) ≡ hits y xs + hits y ys
 hits-++ y [] ys = omega arith
 hits-++ y (x ∷ xs) ys = omega (arith, hits-++ y xs ys)
 

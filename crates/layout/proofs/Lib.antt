@@ -8,6 +8,7 @@ pub mod Unique
 pub mod Cells
 pub mod CloseCells
 pub mod Hits
+pub mod Frame
 pub mod Written
 pub mod Decode
 pub mod Change
@@ -16,7 +17,18 @@ pub mod Kept
 pub mod Taken
 pub mod Grown
 pub mod Laws
+pub mod Made
 pub mod Shown
 pub mod Signs
 pub mod Gone
+pub mod Walked
 pub mod Place
+pub mod Owed
+pub mod Rows
+pub mod Rewritten
+pub mod Runs
+pub mod Exchanges
+pub mod Swaps
+pub mod Labels
+pub mod Chosen
+pub mod Relabels

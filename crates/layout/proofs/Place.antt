@@ -8,7 +8,7 @@ use native.Mathlib.Nat.{add-zero}
 use lib.IntN.{ℤ}
 use lib.Signed.{mag}
 use lib.Dec.{leb}
-use lib.ListN.{length, getD, set, length-set, length-map, List·getD-map}
+use lib.ListN.{length, getD, set, length-set, length-map, length-take, List·getD-map}
 use Rattle.std.proofs.shelf.Lists.{set-getD}
 use Rattle.std.proofs.shelf.Tests.{cond-true, cond-false}
 use Rattle.std.specs.declared.result.Result.{Result}
@@ -24,14 +24,15 @@ use Rattle.ledger.specs.Doors.{Outcome, door, element, off, passed, put, turned
 use Rattle.ledger.specs.Ledger.{ask, book, down, room, settle, walk}
 use Rattle.ledger.specs.Trees.{Tree, Trees, W, bare, free}
 use Rattle.layout.specs.Arrangement.{Arrangement, Codes, Data, Placed, Spot, Vacant, bared, tree, trees, vacant}
-use Rattle.layout.specs.Holds.{Along, Displays, Shows}
+use Rattle.layout.specs.Held.{held-trees}
+use Rattle.layout.specs.Holds.{Along, Displays, Holds, Shows}
 use Rattle.layout.specs.Places.{at-trace, change}
 use Rattle.layout.specs.Sound.{Each, Sound}
 use Rattle.layout.specs.Walks.{and-then, chosen, gone-down, walked}
 use Rattle.layout.specs.Words.{Cell, back, cells, cells-along, label, labelling}
 use Rattle.layout.proofs.Bridge.{Fits, unpacked-packed}
 use Rattle.layout.proofs.Change.{each-get, name-in}
-use Rattle.layout.proofs.Decode.{fits}
+use Rattle.layout.proofs.Decode.{fits, trees-told}
 use Rattle.layout.proofs.Gone.{gone-nothing, gone-row, gone-table}
 use Rattle.layout.proofs.Refine.{tree-vacant}
 use Rattle.layout.proofs.Signs.{element-lt}
@@ -264,3 +265,26 @@ module _ (ws : List ℕ) (A : Arrangement) (o : Sound A) (s : Displays ws A) (t 
         (whole _ (arrive ws (omega (arith, o .most)) 4 1 (subscripts t) (1 + e) (getD (A .names) e Vacant) (omega arith) (omega (arith, o .least, o .names-64))
           (along-get (Shows 4 ws) 1 (A .names) Vacant e lt (s .names))
           (subst (λ (n : ℕ). Fits n 4 (getD (A .names) e Vacant)) (sym big) (each-get (Fits (A .count) 4) Vacant (A .names) e lt (fits A o)))))
+
+-- ── Over words that hold together ──────────────────────────────────────
+
+pub subscripts-count : (t : Trace) → length (subscripts t) ≡ t .depth
+subscripts-count t = simp length-take (omega (arith, t .lawful .2, t .lawful .3))
+
+module _ (ws : List ℕ) (h : Holds ws) (t : Trace) where
+  -- the walk comes to the spot at the trace, or stops where the ledger stops
+  pub came : (x : Result ℕ Refusal) → x ≡ walked ws 1 (t .name) (subscripts t) → Reached ws (h .arrangement) t x
+  came x e =
+      subst (Reached ws (h .arrangement) t) (sym e)
+        (reached ws (h .arrangement) (h .sound) (h .shown) t (omega (arith, subscripts-count t, t .lawful .2)))
+
+  -- the ledger's reply, by the words
+  pub replied : (a : Deed) → booked (h .arrangement) t a ≡ book (length ws) (held-trees ws) (on t a) .0
+  replied a =
+      let A = h .arrangement in
+      ap (λ (n : ℕ). book n (trees A) (on t a) .0) (sym (h .shown .count))
+      ∙ ap (λ (ts : Trees). book (length ws) ts (on t a) .0) (sym (trees-told ws A (h .sound) (h .shown)))
+
+  -- turned away on the walk, whatever is booked
+  pub turned-away : (r : Refusal) → Err r ≡ walked ws 1 (t .name) (subscripts t) → (a : Deed) → refused r ≡ book (length ws) (held-trees ws) (on t a) .0
+  turned-away r e a = sym (came (Err r) e a) ∙ replied a

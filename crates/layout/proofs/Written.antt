@@ -10,13 +10,14 @@ use Rattle.layout.specs.Holds.{Chain, Displays, Shows}
 use Rattle.layout.specs.Sound.{Each, Sound}
 use Rattle.layout.specs.Words.{Cell, cells, cells-along, cells-of, gap-cells, word, words-of, written}
 use Rattle.layout.proofs.Cover.{each-left, each-right, covers-yes}
-use Rattle.layout.proofs.Cells.{Shown, from-cells, cells→shows}
+use Rattle.layout.proofs.Cells.{Shown}
+use Rattle.layout.proofs.Frame.{displays}
 use Rattle.layout.proofs.Hits.{hits, here, here-yes, inner, one-word-each, hits-within}
 
 not-here : (y a : ℕ) → here y a ≡ 0 → y ≡ a → ⊥
 not-here y a h e = omega (arith, h, subst (λ (k : ℕ). here y k ≡ 1) e (here-yes y))
 
-written-other : (cs : List Cell) (ws : List ℕ) (y : ℕ) → hits y cs ≡ 0 → getD (written cs ws) y 0 ≡ getD ws y 0
+pub written-other : (cs : List Cell) (ws : List ℕ) (y : ℕ) → hits y cs ≡ 0 → getD (written cs ws) y 0 ≡ getD ws y 0
 written-other [] ws y h = refl
 written-other (c ∷ cs) ws y h =
     written-other cs (set ws (c .at) (word (c .says))) y (omega arith)
@@ -37,7 +38,7 @@ written-shows (c ∷ cs) ws h l =
           (each-same (length ws) (length (set ws (c .at) w)) (sym (length-set ws (c .at) w)) cs (l .1)),
     )
 
-written-length : (cs : List Cell) (ws : List ℕ) → length (written cs ws) ≡ length ws
+pub written-length : (cs : List Cell) (ws : List ℕ) → length (written cs ws) ≡ length ws
 written-length [] ws = refl
 written-length (c ∷ cs) ws = written-length cs (set ws (c .at) (word (c .says))) ∙ length-set ws (c .at) (word (c .says))
 
@@ -45,35 +46,19 @@ each-at : (n : ℕ) (cs : List Cell) → ((y : ℕ) → 1 ≤ hits y cs → y < 
 each-at n [] h = tt
 each-at n (c ∷ cs) h = (h (c .at) (omega (arith, here-yes (c .at))), each-at n cs (λ y k. h y (omega arith)))
 
-zeros : (n y : ℕ) → _≡_ {A = ℕ} (getD (replicate n 0) y 0) 0
+pub zeros : (n y : ℕ) → _≡_ {A = ℕ} (getD (replicate n 0) y 0) 0
 zeros zero y = refl
 zeros (suc n) zero = refl
 zeros (suc n) (suc y) = zeros n y
-
-chain-shown : (ws : List ℕ) (gs : List Piece) → Each (Shown ws) (gap-cells gs) → ((y : ℕ) → 1 ≤ inner y gs → getD ws y 0 ≡ 0) → Chain ws gs
-chain-shown ws [] e h = tt
-chain-shown ws (g ∷ gs) e h = (
-  e .0,
-  (λ k lo hi. h (g .start + k)
-      (omega (arith, covers-yes (g .start + k) (g .start + 1) (g .size - 1) (omega arith) (omega arith)))),
-  chain-shown ws gs (e .1) (λ y k. h y (omega arith)),
-)
 
 -- the words of a sound arrangement show it
 pub words-shown : (A : Arrangement) → Sound A → Displays (words-of A) A
 words-shown A o =
     let blank : List ℕ = replicate (A .count) 0 in
     let ws = words-of A in
-    let gs = A .gaps in
     let n : length blank ≡ A .count = length-replicate (A .count) 0 in
     let all : Each (Shown ws) (cells-of A) =
     written-shows (cells-of A) blank (λ y. omega (arith, one-word-each A o y))
     (each-at (length blank) (cells-of A) (λ y k. omega (arith, n, hits-within A o y k))) in
-    record {
-      count = written-length (cells-of A) blank ∙ n;
-      header = all .0;
-      names = from-cells (Shown ws) (Shows 4 ws) (cells 4) (λ y p. cells→shows ws 4 y p) 1 (A .names)
-          (each-right (Shown ws) (gap-cells gs) (cells-along (cells 4) 1 (A .names)) (all .1));
-      chain = chain-shown ws gs (each-left (Shown ws) (gap-cells gs) (cells-along (cells 4) 1 (A .names)) (all .1))
-          (λ y k. written-other (cells-of A) blank y (omega (arith, one-word-each A o y)) ∙ zeros (A .count) y);
-    }
+    displays ws A (written-length (cells-of A) blank ∙ n) all
+    (λ y k. written-other (cells-of A) blank y (omega (arith, one-word-each A o y)) ∙ zeros (A .count) y)

@@ -9,6 +9,9 @@ pub mod Sound
 pub mod Holds
 pub mod Walks
 pub mod Keeping
+pub mod Elements
+pub mod Results
+pub mod Booked
 pub mod Determined
 pub mod Refines
 pub mod Lawful

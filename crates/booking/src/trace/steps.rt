@@ -1,7 +1,18 @@
+ghost use Prim.Native.Nat.{_<_};
 ghost use Rattle.booking.specs.Traces.{Made, Deeper, subscripts};
+ghost use lib.ListN.{set};
 ghost use mathlib.Core.Path.{_≡_};
 use super::Trace;
 use crate::refusal::Refusal;
+
+// The subscripts, with one put at a place.
+fn placed(mut at: [i32; 3], place: u8, subscript: i32) -> [i32; 3]
+    requires { ⌜ place < 3 ⌝ }
+    ensures { λ r. ⌜ r ≡ set at place subscript ⌝ }
+{
+    at[place as usize] = subscript;
+    at
+}
 
 impl Trace {
     /// The trace of a name, with no subscripts.
@@ -26,12 +37,10 @@ impl Trace {
             return Err((Refusal::TooDeep, self));
         }
         let Trace { name, depth, at } = self;
-        let mut at = at;
-        at[depth as usize] = subscript;
         Ok(Trace {
             name,
             depth: depth + 1,
-            at,
+            at: placed(at, depth, subscript),
         })
     }
 
@@ -54,5 +63,14 @@ impl Trace {
         ensures { λ r. ⌜ now r ≡ subscripts (now (self .entry)) ⌝ }
     {
         &self.at[0..self.depth as usize]
+    }
+}
+
+/// The refusal alone, as `?` takes it; the trace handed back is let go.
+pub impl From<(Refusal, Trace)> for Refusal as RefusalFromDown {
+    ghost converts = { λ back r. r ≡ back .0 };
+
+    fn from(back: (Refusal, Trace)) -> Refusal {
+        back.0
     }
 }

@@ -1,0 +1,9 @@
+// The keeper: 64 named arrays of arrays in one store of words.
+mod items;
+mod keeper;
+mod make;
+mod save;
+mod span;
+
+pub use keeper::Keeper;
+pub use make::LEAST;

@@ -1,0 +1,19 @@
+use borrow.Author.Needs.{needs}
+use native.Mathlib.Omega.{arith}
+use Rattle.store.specs.Members.{length-lent}
+use Rattle.store.proofs.Fronts.{lent-set, beyond-set}
+use Rattle.store.proofs.word_bank.write_word.Needs as need
+
+pub offset-list-at : need.offset-list-at
+offset-list-at c = let n = length-lent (c .args .list .now) in search needs
+
+pub index-list-at : need.index-list-at
+index-list-at c = omega (arith, length-lent (c .args .list .now))
+
+pub returns : need.returns
+returns c =
+    let ws = c .args .list .now in
+    record {
+      after = lent-set ws (c .args .at) (c .args .word) (omega arith);
+      rest = beyond-set ws (c .args .at) (c .args .word) (omega (arith, length-lent ws));
+    }
