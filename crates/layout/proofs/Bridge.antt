@@ -2,16 +2,15 @@
 use mathlib.Core.Path.{_≡_, refl, sym, _∙_, ap}
 use mathlib.Core.List.{List, [], _∷_, map}
 use mathlib.Core.Bool.{Bool, true, false, cond}
-use Prim.Native.Nat.{ℕ, zero, suc, _+_, _-_, _^_, _<_, _≤_}
+use Prim.Native.Nat.{ℕ, zero, suc, _+_, _^_, _<_, _≤_}
 use native.Mathlib.Omega.{arith}
 use native.Mathlib.Numerals.{add-one}
-use lib.IntN.{ℤ, pos, negsuc}
+use lib.IntN.{ℤ}
 use lib.Signed.{mag}
-use lib.Dec.{ltb, lt→ltb, eqb, eqb→eq, not-T}
-use lib.Arith.{le→nltb}
+use lib.Dec.{eqb, eqb→eq, not-T}
 use lib.ListN.{length, getD, take, drop}
 use lib.Seq.{drop-cons}
-use Rattle.codeword.specs.Codeword.{bit, bits16, field, packed, signed16, unpacked}
+use Rattle.codeword.specs.Codeword.{packed, unpacked}
 use Rattle.codeword.specs.declared.Codeword.{Codeword}
 use Rattle.layout.specs.Arrangement.{Codes, Data, Placed, Spot, Vacant, tree}
 use Rattle.layout.specs.Held.{held, holds-block}
@@ -19,40 +18,8 @@ use Rattle.layout.specs.Holds.{Along, Shows}
 use Rattle.layout.specs.Sound.{Each, Good-base}
 use Rattle.layout.specs.Words.{labelling}
 use Rattle.ledger.specs.Trees.{Nothing, Row, Table, Tree}
-use Rattle.layout.proofs.Packing.{digits}
-use Rattle.layout.proofs.Cover.{is-true, is-false}
-
-base-back : (b : ℤ) → mag b < 2 ^ 15 → (signed16 (bits16 b) ≡ b) × (bits16 b < 2 ^ 16)
-base-back (pos n) h = (
-  ap (λ (q : Bool). cond q (pos n) (negsuc (2 ^ 16 - 1 - n))) (is-true (ltb n (2 ^ 15)) (lt→ltb n (2 ^ 15) h)),
-  omega arith,
-)
-base-back (negsuc n) h =
-    let m = 2 ^ 16 - 1 - n in (
-      ap (λ (q : Bool). cond q (pos m) (negsuc (2 ^ 16 - 1 - m))) (is-false (ltb m (2 ^ 15)) (le→nltb m (2 ^ 15) (omega arith)))
-          ∙ ap negsuc (omega arith),
-      omega arith,
-    )
-
-bit-back : (q : Bool) → (eqb (bit q) 1 ≡ q) × (bit q < 2)
-bit-back true = (refl, omega arith)
-bit-back false = (refl, omega arith)
-
-pub unpacked-packed : (c : Codeword) → c .first < 2 ^ 18 → c .length < 2 ^ 18 → mag (c .base) < 2 ^ 15 → c .kind < 4 → unpacked (packed c) ≡ c
-unpacked-packed c hf hn hb ht =
-    let z = base-back (c .base) hb in
-    let p = bit-back (c .p) in
-    let q = bit-back (c .q) in
-    let r = bit-back (c .r) in
-    let s = bit-back (c .s) in
-    let d = digits (c .first) (c .length) (bits16 (c .base)) (bit (c .p)) (bit (c .q)) (bit (c .r)) (bit (c .s)) (c .kind) hf hn (z .1) (p .1) (q .1) (r .1) (s .1) ht in
-    let one : (a b : ℕ) (v : Bool) → a ≡ b → eqb b 1 ≡ v → eqb a 1 ≡ v = λ a b v e f. ap (λ (k : ℕ). eqb k 1) e ∙ f in
-    let bb : signed16 (field 36 16 (packed c)) ≡ c .base = ap signed16 (d .2) ∙ z .0 in
-    let pp = one _ _ (c .p) (d .3) (p .0) in
-    let qq = one _ _ (c .q) (d .4) (q .0) in
-    let rr = one _ _ (c .r) (d .5) (r .0) in
-    let ss = one _ _ (c .s) (d .6) (s .0) in
-    λ i. record { first = d .0 i; length = d .1 i; base = bb i; p = pp i; q = qq i; r = rr i; s = ss i; kind = d .7 i }
+use Rattle.codeword.proofs.Packing.{unpacked-packed}
+use Rattle.layout.proofs.Cover.{is-false}
 
 module _ {X Y : Type 0} (ws : List ℕ) (f : ℕ → Y) (g : X → Y) where
   pub along-map : (a : ℕ) (xs : List X) → a + length xs ≤ length ws → Along (λ y x. f (getD ws y 0) ≡ g x) a xs
@@ -96,7 +63,7 @@ module _ (ws : List ℕ) (small : length ws ≤ 2 ^ 18) where
       ap (held (suc d) ws) e
       ∙ ap (λ (z : Bool). cond z Nothing (holds-block (held d ws) ws (unpacked (packed c))))
       (is-false (eqb (packed c) 0) (not-T (eqb (packed c) 0) (λ z. let k : packed c ≡ 0 = eqb→eq (packed c) 0 z in omega arith)))
-      ∙ ap (holds-block (held d ws) ws) (unpacked-packed c (omega arith) (omega arith) hb (omega arith))
+      ∙ ap (holds-block (held d ws) ws) (unpacked-packed c (omega arith, omega arith, omega arith) (record { sfits = hb }))
 
   pub shown-held : (d a : ℕ) (p : Placed d) → Fits (length ws) d p → Shows d ws a p → held d ws (getD ws a 0) ≡ tree d p
   shown-held zero a p g s = refl

@@ -1,7 +1,6 @@
 -- Selecting a data element, as the code goes.
-use lib.Dec.{eqb}
 use lib.IntN.{ℤ}
-use mathlib.Core.Bool.{true, false, cond}
+use mathlib.Core.Bool.{false}
 use mathlib.Core.Path.{_≡_, sym, ap, _∙_}
 use Prim.Native.Nat.{ℕ, _+_, _-_}
 use Rattle.std.proofs.shelf.Tests.{cond-true, cond-false, eq-eqb, ne-eqb}

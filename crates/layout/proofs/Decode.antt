@@ -19,7 +19,8 @@ use Rattle.layout.specs.Words.{first-of, labelling, total}
 use Rattle.layout.proofs.Cover.{is-false, each-both, each-left, each-right, each-start, each-last, lies, below, among, above}
 use Rattle.layout.proofs.Order.{Some, blocks-some, ordered}
 use Rattle.layout.proofs.Refine.{tiles-total}
-use Rattle.layout.proofs.Bridge.{Fits, unpacked-packed, along-map, along-imp, along-each, map-id, shown-held}
+use Rattle.layout.proofs.Bridge.{Fits, along-map, along-imp, along-each, map-id, shown-held}
+use Rattle.codeword.proofs.Packing.{unpacked-packed}
 
 -- ── Every piece lies in S ──────────────────────────────────────────────
 
@@ -73,7 +74,7 @@ module _ (ws : List ℕ) (small : length ws ≤ 2 ^ 18) where
       ap (placed-of (suc d) ws) e
       ∙ ap (λ (z : Bool). cond z Vacant (spot-of (placed-of d ws) ws (unpacked (packed c))))
       (is-false (eqb (packed c) 0) (not-T (eqb (packed c) 0) (λ z. let k : packed c ≡ 0 = eqb→eq (packed c) 0 z in omega arith)))
-      ∙ ap (spot-of (placed-of d ws) ws) (unpacked-packed c (omega arith) (omega arith) hb (omega arith))
+      ∙ ap (spot-of (placed-of d ws) ws) (unpacked-packed c (omega arith, omega arith, omega arith) (record { sfits = hb }))
 
   shown-placed : (d a : ℕ) (p : Placed d) → Fits (length ws) d p → Shows d ws a p → placed-of d ws (getD ws a 0) ≡ p
   shown-placed zero a tt g s = refl

@@ -1,5 +1,4 @@
 pub mod Cover
-pub mod Packing
 pub mod Order
 pub mod Refine
 pub mod Bridge

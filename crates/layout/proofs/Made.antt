@@ -1,16 +1,14 @@
 -- The words that making leaves, written one after another.
-use lib.Dec.{ltb}
 use lib.ListN.{getD, length, length-replicate, length-set, replicate, set}
 use lib.Seq.{getD-set-other, getD-set-same}
-use mathlib.Core.Bool.{true, false, cond}
-use mathlib.Core.List.{List, [], _∷_}
+use mathlib.Core.List.{List}
 use mathlib.Core.Path.{_≡_, refl, sym, ap, _∙_, subst}
 use native.Mathlib.Omega.{arith}
 use Prim.Native.Nat.{ℕ, zero, suc, _+_, _-_, _*_, _^_, _<_, _≤_}
 use Rattle.std.proofs.shelf.Tests.{cond-false, cond-true, le-ltb, lt-ltb}
-use Rattle.booking.specs.Bookings.{Done, Reply, granted, refused}
+use Rattle.booking.specs.Bookings.{Done, granted, refused}
 use Rattle.booking.specs.declared.refusal.Refusal.the-variants.{WrongCount}
-use Rattle.layout.specs.Arrangement.{Piece, Placed, Vacant}
+use Rattle.layout.specs.Arrangement.{Piece, Vacant}
 use Rattle.layout.specs.Gaps.{a-gap}
 use Rattle.layout.specs.Holds.{Along, Chain, Displays, Shows}
 use Rattle.layout.specs.Keeping.{made}

@@ -13,7 +13,7 @@ use Rattle.std.proofs.shelf.Lists.{set-getD}
 use Rattle.std.proofs.shelf.Tests.{cond-true, cond-false}
 use Rattle.std.specs.declared.result.Result.{Result}
 use Rattle.std.specs.declared.result.Result.the-variants.{Ok, Err}
-use Rattle.booking.specs.Bookings.{Booking, Deed, Reply, granted, on, refused}
+use Rattle.booking.specs.Bookings.{Deed, Reply, granted, on, refused}
 use Rattle.booking.specs.Traces.{subscripts}
 use Rattle.booking.specs.declared.refusal.Refusal.{Refusal}
 use Rattle.booking.specs.declared.refusal.Refusal.the-variants.{NoRoom, OutOfBounds}
@@ -21,16 +21,17 @@ use Rattle.booking.specs.declared.trace.Trace.{Trace}
 use Rattle.codeword.specs.Codeword.{packed, unpacked}
 use Rattle.ledger.specs.Deeds.{done-at}
 use Rattle.ledger.specs.Doors.{Outcome, door, element, off, passed, put, turned}
-use Rattle.ledger.specs.Ledger.{ask, book, down, room, settle, walk}
+use Rattle.ledger.specs.Ledger.{ask, book, room, settle, walk}
 use Rattle.ledger.specs.Trees.{Tree, Trees, W, bare, free}
 use Rattle.layout.specs.Arrangement.{Arrangement, Codes, Data, Placed, Spot, Vacant, bared, tree, trees, vacant}
 use Rattle.layout.specs.Held.{held-trees}
 use Rattle.layout.specs.Holds.{Along, Displays, Holds, Shows}
 use Rattle.layout.specs.Places.{at-trace, change}
-use Rattle.layout.specs.Sound.{Each, Sound}
-use Rattle.layout.specs.Walks.{and-then, chosen, gone-down, walked}
+use Rattle.layout.specs.Sound.{Sound}
+use Rattle.layout.specs.Walks.{and-then, chosen, walked}
 use Rattle.layout.specs.Words.{Cell, back, cells, cells-along, label, labelling}
-use Rattle.layout.proofs.Bridge.{Fits, unpacked-packed}
+use Rattle.layout.proofs.Bridge.{Fits}
+use Rattle.codeword.proofs.Packing.{unpacked-packed}
 use Rattle.layout.proofs.Change.{each-get, name-in}
 use Rattle.layout.proofs.Decode.{fits, trees-told}
 use Rattle.layout.proofs.Gone.{gone-nothing, gone-row, gone-table}
@@ -113,7 +114,7 @@ module _ (ws : List ℕ) where
     pub shown-label : (w s n : ℕ) (b : ℤ) (q : Bool) (t : ℕ) → 1 ≤ n → s + 1 + n ≤ length ws → mag b < 2 ^ 15 → t ≤ 2
       → w ≡ packed (labelling (s + 1) n b q t) → (labelling (s + 1) n b q t ≡ unpacked w) × (w ≡ 0 → ⊥)
     shown-label w s n b q t hn hi hb ht e =
-        ( sym (ap unpacked e ∙ unpacked-packed (labelling (s + 1) n b q t) (omega arith) (omega arith) hb (omega arith))
+        ( sym (ap unpacked e ∙ unpacked-packed (labelling (s + 1) n b q t) (omega arith, omega arith, omega arith) (record { sfits = hb }))
         , λ z. omega (arith, e))
 
     -- one step down, on the ledger

@@ -6,7 +6,6 @@ use native.Mathlib.Omega.{arith}
 use Prim.Native.Nat.{ℕ, _-_, _%_, _^_, _<_, _≤_}
 use Rattle.std.proofs.shelf.Tests.{cond-true, cond-false, le-ltb, lt-ltb}
 use Rattle.codeword.specs.Codeword.{unpacked}
-use Rattle.codeword.specs.declared.Codeword.{Codeword}
 use Rattle.layout.specs.Elements.{relabelled}
 
 module _ (ws us : List ℕ) (at code f : ℕ) (wrote : us ≡ set ws at code) (first : f ≡ unpacked code .first) where

@@ -1,7 +1,7 @@
 -- The data element selected at a trace; reading and writing it.
 use mathlib.Core.Path.{_≡_, refl, sym, ap, _∙_, subst}
 use mathlib.Core.Bool.{Bool, true, false, cond, not}
-use mathlib.Core.List.{List, [], _∷_, _++_, append-assoc}
+use mathlib.Core.List.{List, _∷_, _++_, append-assoc}
 use Prim.Native.Nat.{ℕ, suc, _+_, _-_, _^_, _<_, _≤_}
 use native.Mathlib.Omega.{arith}
 use lib.IntN.{ℤ}
@@ -34,7 +34,7 @@ use Rattle.layout.specs.Words.{Cell, back, cells, cells-along, datum, datum-at
 use Rattle.layout.proofs.Frame.{cell, wrote}
 use Rattle.layout.proofs.Gone.{through-ok}
 use Rattle.layout.proofs.Owed.{granted-now, granted-owes, place-owes}
-use Rattle.layout.proofs.Place.{Reached, Spread, Stands, along-get, booked, came, door-open, door-shut, replied, reply, shown-label, spread-at, subscripts-count}
+use Rattle.layout.proofs.Place.{Reached, Stands, along-get, booked, came, door-open, door-shut, replied, reply, shown-label, spread-at, subscripts-count}
 use Rattle.layout.proofs.Signs.{element-lt}
 
 -- ── One step, on words ─────────────────────────────────────────────────

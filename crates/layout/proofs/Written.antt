@@ -1,18 +1,17 @@
 -- Words written cell by cell show the cells, where no address is written twice.
 use mathlib.Core.Path.{_≡_, refl, sym, _∙_, subst}
 use mathlib.Core.List.{List, [], _∷_}
-use Prim.Native.Nat.{ℕ, zero, suc, _+_, _-_, _<_, _≤_}
+use Prim.Native.Nat.{ℕ, zero, suc, _<_, _≤_}
 use native.Mathlib.Omega.{arith}
 use lib.ListN.{length, getD, set, length-set, replicate, length-replicate}
 use lib.Seq.{getD-set-same, getD-set-other}
-use Rattle.layout.specs.Arrangement.{Arrangement, Piece}
-use Rattle.layout.specs.Holds.{Chain, Displays, Shows}
+use Rattle.layout.specs.Arrangement.{Arrangement}
+use Rattle.layout.specs.Holds.{Displays}
 use Rattle.layout.specs.Sound.{Each, Sound}
-use Rattle.layout.specs.Words.{Cell, cells, cells-along, cells-of, gap-cells, word, words-of, written}
-use Rattle.layout.proofs.Cover.{each-left, each-right, covers-yes}
+use Rattle.layout.specs.Words.{Cell, cells-of, word, words-of, written}
 use Rattle.layout.proofs.Cells.{Shown}
 use Rattle.layout.proofs.Frame.{displays}
-use Rattle.layout.proofs.Hits.{hits, here, here-yes, inner, one-word-each, hits-within}
+use Rattle.layout.proofs.Hits.{hits, here, here-yes, one-word-each, hits-within}
 
 not-here : (y a : ℕ) → here y a ≡ 0 → y ≡ a → ⊥
 not-here y a h e = omega (arith, h, subst (λ (k : ℕ). here y k ≡ 1) e (here-yes y))

@@ -2,7 +2,7 @@ use borrow.Author.Needs.{needs}
 use lib.IntN.{pos, natAbs, _+ℤ_}
 use lib.Signed.{_<ℤ_, _≤ℤ_}
 use mathlib.Core.Logic.{inl, inr}
-use mathlib.Core.Path.{_≡_, sym, ap, _∙_}
+use mathlib.Core.Path.{sym, ap, _∙_}
 use mir.Syntax.{w16, w32}
 use mir.Val.{SFits}
 use native.Mathlib.Omega.{arith}

@@ -1,11 +1,6 @@
-use lib.ListN.{length, set}
-use mathlib.Core.List.{List}
-use mathlib.Core.Path.{_≡_, refl, sym, ap, _∙_}
+use mathlib.Core.Path.{refl, sym, ap, _∙_}
 use native.Mathlib.Omega.{arith}
-use Prim.Native.Nat.{ℕ, _-_, _+_, _*_, _^_, _≤_}
-use Rattle.booking.specs.Bookings.{Reply}
-use Rattle.layout.specs.Keeping.{made}
-use Rattle.layout.proofs.Made.{blank, made-not, made-so}
+use Rattle.layout.proofs.Made.{made-not, made-so}
 use Rattle.keeper.proofs.Makes.{made-blank}
 use Rattle.keeper.proofs.keeper.Keeper.make.Needs as need
 

@@ -1,5 +1,4 @@
 use mathlib.Core.Path.{sym, _∙_}
-use native.Mathlib.Omega.{arith}
 use Rattle.std.proofs.shelf.Tests.{cond-true, eq-eqb}
 use Rattle.keeper.proofs.Saves.{overlaid-all}
 use Rattle.keeper.proofs.keeper.Keeper.save.Needs as need

@@ -1,12 +1,12 @@
 use borrow.Author.Needs.{needs}
 use lib.IntN.{ℤ}
-use mathlib.Core.Path.{sym, ap, _∙_}
-use mir.Syntax.{w16, w64}
+use mathlib.Core.Path.{ap, _∙_}
+use mir.Syntax.{w16}
 use mir.Val.{SFits}
 use Rattle.std.proofs.shelf.Results.{err-from-errBy}
 use Rattle.std.specs.declared.option.Option.the-variants.{Some}
 use Rattle.std.specs.declared.result.Result.the-variants.{Err}
-use Rattle.booking.specs.Bookings.{Reply, Span, Spans, granted}
+use Rattle.booking.specs.Bookings.{Span, Spans, granted}
 use Rattle.layout.proofs.Place.{turned-away}
 use Rattle.layout.specs.Results.{span-of}
 use Rattle.layout.proofs.Labels.{span-none, span-some}
