@@ -1,5 +1,5 @@
--- The counted words of lists and those past them: a word, and a write.
-use Prim.Native.Nat.{ℕ, zero, suc, _+_, _-_, _<_, _≤_, _^_}
+-- The counted words of a list and of two lists in a row, and the words past them.
+use Prim.Native.Nat.{ℕ, zero, suc, _-_, _<_, _^_}
 use lib.ListN.{getD, length, set, take}
 use mathlib.Core.List.{List, [], _∷_, _++_, map}
 use mathlib.Core.Path.{_≡_, refl, sym, ap, _∙_}
@@ -10,13 +10,14 @@ use Rattle.store.specs.Members.{length-lent, length-row}
 use Rattle.store.specs.Parts.{Row}
 use Rattle.store.specs.Words.{most, front, beyond, wrapped, lent-words, joined-words, joined-beyond}
 
+-- the front of a list after a write
 take-set : (n : ℕ) (ws : List ℕ) (at w : ℕ) → take n (set ws at w) ≡ set (take n ws) at w
 take-set zero ws at w = refl
 take-set (suc n) [] at w = refl
 take-set (suc n) (x ∷ ws) zero w = refl
 take-set (suc n) (x ∷ ws) (suc at) w = ap (λ l. x ∷ l) (take-set n ws at w)
 
--- of a lent list
+-- a lent list: a word of it, and a write
 pub lent-word : (ws : List ℕ) (at : ℕ) → at < length (lent-words ws) → getD ws at 0 < 2 ^ 64 → getD ws at 0 ≡ getD (lent-words ws) at 0
 unfolding lent-words
 lent-word ws at h f =
@@ -33,7 +34,7 @@ lent-set ws at w f =
 pub beyond-set : (ws : List ℕ) (at w : ℕ) → at < most → beyond (set ws at w) ≡ beyond ws
 beyond-set ws at w h = drop-set-lt most ws at w h
 
--- of two lists in a row
+-- two lists in a row: each part of both
 pub row : (xs ys : List ℕ) (count n : ℕ) → count ≡ length (joined-words xs ys) → n ≡ length xs → Row xs ys count n
 unfolding joined-words joined-beyond
 row xs ys count n e p =

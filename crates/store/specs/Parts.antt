@@ -20,7 +20,7 @@ pub record Second (xs ys : List ℕ) (i j : ℕ) : Type 0 where
   pub after : (w : ℕ) → joined-words xs (set ys i w) ≡ set (joined-words xs ys) j w
   pub rest : (w : ℕ) → joined-beyond xs (set ys i w) ≡ joined-beyond xs ys
 
--- `count` words of both are counted, n words are the first's, and a write past the counted words changes none
+-- of both `count` words are counted, and a write past them changes none; the second begins at n
 pub record Row (xs ys : List ℕ) (count n : ℕ) : Type 0 where
   pub all : count ≡ length (joined-words xs ys)
   pub past : (at w : ℕ) → count ≤ at → set (joined-words xs ys) at w ≡ joined-words xs ys

@@ -16,6 +16,7 @@ pub fn clear<S: Store>(store: &mut S, from: u64, n: u64)
     put_zeros(store, from, within);
 }
 
+/// The loop of `clear`.
 fn put_zeros<S: Store>(store: &mut S, from: u64, n: u64)
     requires { ⌜ n ≤ length (S·Store .words (now store)) - from ⌝ }
     ensures after { λ _. ⌜ S·Store .words (now (store .exit)) ≡ zeros (S·Store .words (now (store .entry))) from n ⌝ }
@@ -34,6 +35,7 @@ pub fn copy_out<S: Store>(store: &S, list: &mut [u64])
     get_words(store, list, n);
 }
 
+/// The loop of `copy_out`.
 fn get_words<S: Store>(store: &S, list: &mut [u64], n: u64)
     requires { ⌜ n ≤ length (S·Store .words (now store)) ⌝ ∗ ⌜ n ≤ length (now list) ⌝ }
     ensures { λ _. ⌜ now (list .exit) ≡ over n (S·Store .words (now (store .entry))) (now (list .entry)) ⌝ }
@@ -52,6 +54,7 @@ pub fn copy_in<S: Store>(store: &mut S, list: &[u64])
     put_words(store, list, n);
 }
 
+/// The loop of `copy_in`.
 fn put_words<S: Store>(store: &mut S, list: &[u64], n: u64)
     requires { ⌜ n ≤ length (S·Store .words (now store)) ⌝ ∗ ⌜ n ≤ length (now list) ⌝ }
     ensures after { λ _. ⌜ S·Store .words (now (store .exit)) ≡ over n (now (list .entry)) (S·Store .words (now (store .entry))) ⌝ }

@@ -9,7 +9,8 @@ use crate::store::MOST;
 use crate::store::Store;
 use booking::Refusal;
 
-/// A store in bytes that the caller lends, eight to a word, highest byte first. Bytes over are never written.
+/// A store in bytes that the caller lends, eight to a word, highest byte first. Bytes over, and words past the most,
+/// are not counted and never written.
 #[derive(Drop)]
 pub struct ByteBank<'a> {
     pub lent: &'a mut [u8],

@@ -10,8 +10,9 @@ use booking::Refusal;
 /// The most words that a store counts.
 pub const MOST: u64 = 262144;
 
-/// A store means a list of words, as many as it counts.
+/// A store means a list of words.
 pub trait Store {
+    // Its words, from address 0 on.
     ghost words: { Self → List ℕ };
 
     // No store counts more than the most: each make shows it.
@@ -20,7 +21,7 @@ pub trait Store {
     // Every word has 64 bits: each make shows it.
     ghost fits: { (s : Self) → Fit (words s) };
 
-    // What no call changes.
+    // What lies past the words, and who lent it: no call changes it.
     ghost rest: { Self → Rest };
 
     /// How many words there are.
