@@ -4,6 +4,7 @@ mod keeper;
 mod make;
 mod save;
 mod span;
+mod tidy;
 
 pub use keeper::Keeper;
 pub use make::LEAST;

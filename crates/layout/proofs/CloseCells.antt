@@ -18,7 +18,7 @@ use Rattle.layout.proofs.Cells.{Rigid, carry, cells-move, along-move}
 Level : List Piece → ℕ → Piece → Type 0
 Level gs a p = ((k : ℕ) → k < p .size → gap-below (p .start + k) gs ≡ gap-below (p .start) gs) × (a + gap-below (p .start) gs ≤ p .start)
 
-one-gap : (a n x : ℕ) → a < x → cond (ltb a x) n 0 ≡ n
+pub one-gap : (a n x : ℕ) → a < x → cond (ltb a x) n 0 ≡ n
 one-gap a n x h = ap (λ (q : Bool). cond q n 0) (is-true (ltb a x) (lt→ltb a x h))
 
 level : (a : ℕ) (ts : List Tile) → Each (λ t. 1 ≤ size t) ts → Each (Level (idles a ts) a) (useds a ts)
@@ -40,7 +40,7 @@ level a (used n ∷ ts) e = (
   each-imp (Level (idles (a + n) ts) (a + n)) _ (λ p l. (l .0, omega (arith, l .1))) (useds (a + n) ts) (level (a + n) ts (e .1)),
 )
 
-pub down : Arrangement → ℕ → ℕ
+unfoldable pub down : Arrangement → ℕ → ℕ
 down A y = y - gap-below y (A .gaps)
 
 pub blocks-rigid : (A : Arrangement) → Ordered A → Each (Rigid (down A)) (concat (map (pieces 4) (A .names)))
@@ -51,7 +51,7 @@ blocks-rigid A t =
     (subst (λ (gs : List Piece). Each (Level gs 65) (useds 65 (t .order))) (t .gaps-are) (level 65 (t .order) (t .not-empty))))
 
 -- names stay where they are
-low : (A : Arrangement) → Ordered A → (k : ℕ) → k < 65 → down A k ≡ k
+pub low : (A : Arrangement) → Ordered A → (k : ℕ) → k < 65 → down A k ≡ k
 unfolding down
 low A t k h =
     let e : gap-below k (A .gaps) ≡ 0 =

@@ -370,7 +370,7 @@ module _ (i : ℤ) (n : ℕ) where
       ))
       (gap-sized (B .count - g) g) (weaker (a-gap (B .count - g) g) (gap-climbs (B .count - g) g))
 
-gap-total : (s n : ℕ) → total (a-gap s n) ≡ n
+pub gap-total : (s n : ℕ) → total (a-gap s n) ≡ n
 gap-total s zero = refl
 gap-total s (suc n) = omega arith
 

@@ -47,7 +47,7 @@ hits-++ y (x ∷ xs) ys = omega (arith, hits-++ y xs ys)
 
 module _ (y : ℕ) {X : Type 0} (f : ℕ → X → List Cell) (h : X → List Piece)
     (one : (a : ℕ) (x : X) → hits y (f a x) ≡ here y a + covered y (h x)) where
-  along-hits : (a : ℕ) (xs : List X)
+  pub along-hits : (a : ℕ) (xs : List X)
       → hits y (cells-along f a xs) ≡ covers y (record { start = a; size = length xs }) + covered y (concat (map h xs))
   along-hits a [] = omega (arith, covers-none y a)
   along-hits a (x ∷ xs) =

@@ -212,19 +212,19 @@ link-cases P p g gs h k = pick (ltb (p .start) (g .start)) (ltb→lt (p .start) 
     pick true u v = h (u tt)
     pick false u v = k (v tt)
 
-link-covered : (y : ℕ) (p : Piece) (gs : List Piece) → covered y (link p gs) ≡ covers y p + covered y gs
+pub link-covered : (y : ℕ) (p : Piece) (gs : List Piece) → covered y (link p gs) ≡ covers y p + covered y gs
 link-covered y p [] = refl
 link-covered y p (g ∷ gs) =
     let more = link-covered y p gs in
     link-cases (λ ps. covered y ps ≡ covers y p + covered y (g ∷ gs)) p g gs (λ l. refl) (λ l. omega (arith, more))
 
-link-each : (P : Piece → Type 0) (p : Piece) (gs : List Piece) → P p → Each P gs → Each P (link p gs)
+pub link-each : (P : Piece → Type 0) (p : Piece) (gs : List Piece) → P p → Each P gs → Each P (link p gs)
 link-each P p [] h e = (h, tt)
 link-each P p (g ∷ gs) h e =
     let more = link-each P p gs h (e .1) in
     link-cases (Each P) p g gs (λ l. (h, e)) (λ l. (e .0, more))
 
-link-climbs : (p : Piece) (gs : List Piece) → Climbs gs → Climbs (link p gs)
+pub link-climbs : (p : Piece) (gs : List Piece) → Climbs gs → Climbs (link p gs)
 link-climbs p [] c = (tt, tt)
 link-climbs p (g ∷ gs) c =
     let more = link-climbs p gs (c .1) in

@@ -31,3 +31,10 @@ pub mod Swaps
 pub mod Labels
 pub mod Chosen
 pub mod Relabels
+pub mod Chains
+pub mod Live
+pub mod Step
+pub mod Relink
+pub mod Scan
+pub mod End
+pub mod Rooms

@@ -45,7 +45,7 @@ module _ {X : Type 0} where
 
 -- ── T is the free words ────────────────────────────────────────────────
 
-total-++ : (xs ys : List Piece) → total (xs ++ ys) ≡ total xs + total ys
+pub total-++ : (xs ys : List Piece) → total (xs ++ ys) ≡ total xs + total ys
 total-++ [] ys = omega arith
 total-++ (x ∷ xs) ys = omega (arith, total-++ xs ys)
 

@@ -52,7 +52,7 @@ clear g (h ∷ hs) e c o = (
 )
 
 -- no gap is large enough; or the gaps are the n words from x and those that are left
-data Tried (n : ℕ) (gs : List Piece) : Fit → Type 0 where
+pub data Tried (n : ℕ) (gs : List Piece) : Fit → Type 0 where
   failed : Each (λ g. g .size < n) gs → Tried n gs no-gap
   fitted : {x : ℕ} {left : List Piece} → ((y : ℕ) → covers y (record { start = x; size = n }) + covered y left ≡ covered y gs)
       → Each Some left → Climbs left → ((a : ℕ) → From a gs → From a left) → Tried n gs (gap-at x left)
@@ -88,7 +88,7 @@ front n g gs l e c past =
     (before s k gs (each-imp (λ h. g .start + g .size ≤ h .start) (λ h. s ≤ h .start) (λ h m. omega arith) gs past) c)
     (λ a f. each-++ (λ h. a ≤ h .start) (a-gap s k) gs (gap-from a s k (omega (arith, f .0))) (f .1))
 
-first-fits : (n : ℕ) (gs : List Piece) → Each Some gs → Climbs gs → ((y : ℕ) → covered y gs ≤ 1) → Tried n gs (first-fit n gs)
+pub first-fits : (n : ℕ) (gs : List Piece) → Each Some gs → Climbs gs → ((y : ℕ) → covered y gs ≤ 1) → Tried n gs (first-fit n gs)
 first-fits n [] e c o = failed tt
 first-fits n (g ∷ gs) e c o =
     pick (leb n (g .size)) (leb→le n (g .size)) (nleb→lt n (g .size)) (first-fits n gs (e .1) (c .1) (λ y. omega (arith, o y)))
@@ -100,11 +100,11 @@ first-fits n (g ∷ gs) e c o =
 
 -- ── S2 ─────────────────────────────────────────────────────────────────
 
-record Same-words (gs hs : List Piece) : Type 0 where
-  cover : (y : ℕ) → covered y hs ≡ covered y gs
-  sized : Each Some hs
-  climbs : Climbs hs
-  from : (a : ℕ) → From a gs → From a hs
+pub record Same-words (gs hs : List Piece) : Type 0 where
+  pub cover : (y : ℕ) → covered y hs ≡ covered y gs
+  pub sized : Each Some hs
+  pub climbs : Climbs hs
+  pub from : (a : ℕ) → From a gs → From a hs
 
 join-same : (g : Piece) (gs : List Piece) → Some g → Each Some gs → From (g .start) gs → Climbs gs → Same-words (g ∷ gs) (join g gs)
 join-same g [] s e f c = record { cover = λ y. refl; sized = (s, tt); climbs = (tt, tt); from = λ a h. h }
@@ -120,7 +120,7 @@ join-same g (h ∷ hs) s e f c = pick (eqb (g .start + g .size) (h .start)) (eqb
     }
     pick false u = record { cover = λ y. refl; sized = (s, e); climbs = (f, c); from = λ a k. k }
 
-combine-same : (gs : List Piece) → Each Some gs → Climbs gs → Same-words gs (combined gs)
+pub combine-same : (gs : List Piece) → Each Some gs → Climbs gs → Same-words gs (combined gs)
 combine-same [] e c = record { cover = λ y. refl; sized = tt; climbs = tt; from = λ a h. h }
 combine-same (g ∷ gs) e c =
     let m = combine-same gs (e .1) (c .1) in

@@ -7,6 +7,7 @@ pub mod Rearranged
 pub mod Held
 pub mod Sound
 pub mod Holds
+pub mod Chains
 pub mod Walks
 pub mod Keeping
 pub mod Elements

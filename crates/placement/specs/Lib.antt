@@ -1,0 +1,4 @@
+pub mod Moves
+pub mod Gaps
+pub mod Links
+pub mod Room
