@@ -83,7 +83,7 @@ no-pieces : (P : Piece → Type 0) (us : List ℕ) → Each P (concat (map (λ (
 no-pieces P [] = tt
 no-pieces P (u ∷ us) = no-pieces P us
 
--- S3, a raise and a turn of the closing loop are all this: each live word goes where `to` sends its address, and the addresses
+-- Closing up, a raise and a turn of the closing loop are all this: each live word goes where `to` sends its address, and the addresses
 -- in labels and back-references go with it
 pub cells-move : (to : ℕ → ℕ) (d a : ℕ) (p : Placed d) → Each (Rigid to) (pieces d p)
     → cells d (to a) (move to d p) ≡ map (carry to) (cells d a p)

@@ -29,7 +29,7 @@ use Rattle.layout.proofs.Change.{At, At-trace, named, name-in, at-change, at-m
 use Rattle.layout.proofs.Kept.{each-replicate, cov-none, gap-covered, gap-sized, closed-up-sound, all-total, freed-sound}
 use Rattle.layout.proofs.Doors.{Legal}
 
--- ── S1 ─────────────────────────────────────────────────────────────────
+-- ── The first gap that fits ─────────────────────────────────────────────────────────────────
 
 abbrev From : ℕ → List Piece → Type 0
 From a gs = Each (λ g. a ≤ g .start) gs
@@ -98,7 +98,7 @@ first-fits n (g ∷ gs) e c o =
     pick true u v t = front n g gs (u tt) (e .1) (c .1) (clear g gs (e .1) (c .0) o)
     pick false u v t = kept-fit n g gs (v tt) (e .0) (c .0) t
 
--- ── S2 ─────────────────────────────────────────────────────────────────
+-- ── Gaps combined ─────────────────────────────────────────────────────────────────
 
 pub record Same-words (gs hs : List Piece) : Type 0 where
   pub cover : (y : ℕ) → covered y hs ≡ covered y gs

@@ -16,6 +16,7 @@ abbrev pub Placed : ℕ → Type 0
 Placed zero = Unit {0}
 Placed (suc d) = Spot (Placed d)
 
+-- the placed tree of nothing
 abbrev pub vacant : (d : ℕ) → Placed d
 vacant zero = tt
 vacant (suc d) = Vacant
@@ -25,11 +26,13 @@ pub record Piece : Type 0 where
   pub start : ℕ
   pub size : ℕ
 
+-- how many words there are, what lies under each name, and the gaps
 pub record Arrangement : Type 0 where
   pub count : ℕ
   pub names : List (Placed 4)
   pub gaps : List Piece  -- ascending
 
+-- a spot, or a whole placed tree, without the addresses
 abbrev pub bared : {A B : Type 0} → (A → B) → Spot A → Node B
 bared f Vacant = Nothing
 bared f (Data s b t ws) = Row b t ws
@@ -39,9 +42,11 @@ abbrev pub tree : (d : ℕ) → Placed d → Tree d
 tree zero p = tt
 tree (suc d) p = bared (tree d) p
 
+-- the trees of all names
 abbrev pub trees : Arrangement → Trees
 trees A = map (tree 4) (A .names)
 
+-- lists one after another
 abbrev pub concat : {X : Type 0} → List (List X) → List X
 concat [] = []
 concat (xs ∷ xss) = xs ++ concat xss

@@ -8,6 +8,7 @@ use Rattle.codeword.specs.Codeword.{unpacked}
 use Rattle.codeword.specs.declared.Codeword.{Codeword}
 use Rattle.ledger.specs.Trees.{Node, Nothing, Row, Table, Tree, Trees}
 
+-- what a codeword that is not 0 holds
 abbrev pub holds-block : {A : Type 0} → (ℕ → A) → List ℕ → Codeword → Node A
 holds-block f ws c =
     let block : List ℕ = take (c .length) (drop (c .first) ws) in
@@ -18,5 +19,6 @@ abbrev pub held : (d : ℕ) → List ℕ → ℕ → Tree d
 held zero ws w = tt
 held (suc d) ws w = cond (eqb w 0) Nothing (holds-block (held d ws) ws (unpacked w))
 
+-- the trees of all names
 abbrev pub held-trees : List ℕ → Trees
 held-trees ws = map (held 4 ws) (take 64 (drop 1 ws))

@@ -9,10 +9,12 @@ use Rattle.layout.specs.Arrangement.{Arrangement, Codes, Data, Piece, Placed, 
 use Rattle.layout.specs.Sound.{Sound}
 use Rattle.layout.specs.Words.{first-of, labelling, total}
 
+-- so of each element at the address that goes with it
 abbrev pub Along : {X : Type 0} → (ℕ → X → Type 0) → ℕ → List X → Type 0
 Along P a [] = Unit {0}
 Along P a (x ∷ xs) = P a x × Along P (a + 1) xs
 
+-- the codeword at an address shows a spot
 abbrev pub Shows-spot : {A : Type 0} → (ℕ → A → Type 0) → List ℕ → ℕ → Spot A → Type 0
 Shows-spot P ws a Vacant = getD ws a 0 ≡ 0
 Shows-spot P ws a (Data s b t vs) =

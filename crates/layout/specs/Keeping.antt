@@ -13,11 +13,13 @@ use Rattle.layout.specs.Placement.{closed-up}
 use Rattle.layout.specs.Rearranged.{as-made, stored}
 use Rattle.layout.specs.Words.{words-of}
 
+-- the spot that a codeword labels
 abbrev pub spot-of : {A : Type 0} → (ℕ → A) → List ℕ → Codeword → Spot A
 spot-of f ws c =
     let block : List ℕ = take (c .length) (drop (c .first) ws) in
     cond (c .r) (Codes (c .first - 1) (c .base) (map f block)) (Data (c .first - 1) (c .base) (c .kind) block)
 
+-- the placed tree that a codeword holds
 abbrev pub placed-of : (d : ℕ) → List ℕ → ℕ → Placed d
 placed-of zero ws w = tt
 placed-of (suc d) ws w = cond (eqb w 0) Vacant (spot-of (placed-of d ws) ws (unpacked w))

@@ -7,6 +7,7 @@ use Rattle.layout.specs.Arrangement.{Arrangement, Codes, Data, Piece, Placed, 
 use Rattle.layout.specs.Gaps.{Fit, a-gap, combined, first-fit, gap-at, no-gap}
 use Rattle.layout.specs.Words.{total}
 
+-- every block of a placed tree at another address
 abbrev pub moved : {A : Type 0} → (ℕ → ℕ) → (A → A) → Spot A → Spot A
 moved to f Vacant = Vacant
 moved to f (Data s b t ws) = Data (to s) b t ws
@@ -21,7 +22,7 @@ abbrev pub gap-below : ℕ → List Piece → ℕ
 gap-below x [] = 0
 gap-below x (g ∷ gs) = cond (ltb (g .start) x) (g .size) 0 + gap-below x gs
 
--- S3: every block goes down by the gaps below it, and one gap is left behind them
+-- every block goes down by the gaps below it, and one gap is left behind them
 abbrev pub closed-up : Arrangement → Arrangement
 closed-up A = record {
   count = A .count;
@@ -29,18 +30,21 @@ closed-up A = record {
   gaps = a-gap (A .count - total (A .gaps)) (total (A .gaps));
 }
 
+-- the same blocks with other gaps
 abbrev pub with-gaps : Arrangement → List Piece → Arrangement
 with-gaps A gs = record { count = A .count; names = A .names; gaps = gs }
 
--- S1; or S2 and S1; or S3 and S1: the arrangement in which n words begin at the address
+-- room that was found: where it begins, and the arrangement around it
 pub record Found : Type 0 where
   pub at : ℕ
   pub arrangement : Arrangement
 
+-- what was found, or what else was
 abbrev pub found-or : Arrangement → Fit → Found → Found
 found-or A no-gap other = other
 found-or A (gap-at x gs) other = record { at = x; arrangement = with-gaps A gs }
 
+-- room for n words: in the first gap that is large enough; else once adjacent gaps are combined; else once all blocks are closed up
 abbrev pub find : ℕ → Arrangement → Found
 find n A =
     found-or A (first-fit n (A .gaps))

@@ -16,15 +16,18 @@ use Rattle.ledger.specs.Doors.{element}
 use Rattle.ledger.specs.Ledger.{book}
 use Rattle.ledger.specs.Lists.{delete-at, insert-at, overwrite, swap}
 
+-- nothing stands at the trace, and the blocks that stood there are linked as gaps
 abbrev pub freed : Trace → Arrangement → Arrangement
 freed t A =
     let there : List Piece = seen [] (λ d p. pieces (suc d) p) t A in
     at-trace (λ d p. Vacant) t (with-gaps A (link-all there (A .gaps)))
 
+-- n zeros or n nothings from an address on
 abbrev pub new-spot : ℕ → ℤ → Bool → ℕ → ℕ → (d : ℕ) → Spot (Placed d) → Spot (Placed d)
 new-spot n b true t s d p = Codes s b (replicate n (vacant d))
 new-spot n b false t s d p = Data s b t (replicate n 0)
 
+-- a new block where room was found
 abbrev pub put-at : ℕ → ℤ → Bool → ℕ → Trace → Found → Arrangement
 put-at n b c ty t x = at-trace (new-spot n b c ty (x .at)) t (x .arrangement)
 
@@ -34,26 +37,31 @@ data-change f d Vacant = Vacant
 data-change f d (Data s b t ws) = Data s b t (f b ws)
 data-change f d (Codes s b ps) = Codes s b ps
 
+-- the base changes
 abbrev pub rebased : ℤ → (d : ℕ) → Spot (Placed d) → Spot (Placed d)
 rebased c d Vacant = Vacant
 rebased c d (Data s b t ws) = Data s c t ws
 rebased c d (Codes s b ps) = Codes s c ps
 
+-- two elements change places
 abbrev pub exchanged : ℤ → ℤ → (d : ℕ) → Spot (Placed d) → Spot (Placed d)
 exchanged i j d Vacant = Vacant
 exchanged i j d (Data s b t ws) = Data s b t ws
 exchanged i j d (Codes s b ps) = Codes s b (swap (element b i) (element b j) (vacant d) ps)
 
+-- n elements more
 abbrev pub grown : ℤ → ℕ → (d : ℕ) → Spot (Placed d) → Spot (Placed d)
 grown i n d Vacant = Vacant
 grown i n d (Data s b t ws) = Data s b t (insert-at (element b i) n 0 ws)
 grown i n d (Codes s b ps) = Codes s b (insert-at (element b i) n (vacant d) ps)
 
+-- n elements less
 abbrev pub shrunk : ℤ → ℕ → (d : ℕ) → Spot (Placed d) → Spot (Placed d)
 shrunk i n d Vacant = Vacant
 shrunk i n d (Data s b t ws) = Data s b t (delete-at (element b i) n ws)
 shrunk i n d (Codes s b ps) = Codes s b (delete-at (element b i) n ps)
 
+-- where a block begins
 abbrev pub start-of : (d : ℕ) → Spot (Placed d) → ℕ
 start-of d Vacant = 0
 start-of d (Data s b t ws) = s
@@ -74,11 +82,13 @@ raised s n A = record {
   gaps = a-gap (A .count - (total (A .gaps) - n)) (total (A .gaps) - n);
 }
 
+-- the blocks above the one at the trace make room, and it grows
 abbrev pub inserted : ℤ → ℕ → Trace → Arrangement → Arrangement
 inserted i n t A =
     let s : ℕ = seen 0 start-of t A in
     at-trace (grown i n) t (raised s n A)
 
+-- what a granted booking leaves
 abbrev pub rearranged : Trace → Deed → Arrangement → Arrangement
 rearranged t (Take n b c ty) A = put-at n b c ty t (find (n + 1) (freed t A))
 rearranged t Free A = freed t A
@@ -94,14 +104,17 @@ rearranged t (Delete i n) A =
 rearranged t (Rebase c) A = at-trace (rebased c) t A
 rearranged t (Exchange i j) A = at-trace (exchanged i j) t A
 
+-- the one if the reply grants, else the other
 abbrev pub if-granted : Reply → (yes-arr no-arr : Arrangement) → Arrangement
 if-granted (granted a) A B = A
 if-granted (refused r) A B = B
 
+-- a booking: the reply of the plain ledger, and the arrangement after it
 abbrev pub stored : Arrangement → Booking → Reply × Arrangement
 stored A b =
     let r : Reply = book (A .count) (trees A) b .0 in
     (r, if-granted r (rearranged (b .trace) (b .deed) A) A)
 
+-- no name labels anything, and one gap takes up the rest
 abbrev pub as-made : ℕ → Arrangement
 as-made count = record { count = count; names = replicate 64 Vacant; gaps = a-gap 65 (count - 65) }

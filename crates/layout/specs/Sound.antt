@@ -10,6 +10,7 @@ use mathlib.Core.Path.{_≡_}
 use Rattle.layout.specs.Arrangement.{Arrangement, Codes, Data, Piece, Placed, Spot, Vacant, blocks}
 use Rattle.ledger.specs.Trees.{sum}
 
+-- so of each element
 abbrev pub Each : {X : Type 0} → (X → Type 0) → List X → Type 0
 Each P [] = Unit {0}
 Each P (x ∷ xs) = P x × Each P xs
@@ -48,6 +49,7 @@ abbrev pub Good : (d : ℕ) → Placed d → Type 0
 Good zero p = Unit {0}
 Good (suc d) p = Good-spot (Good d) p
 
+-- a sound arrangement
 pub record Sound (A : Arrangement) : Type 0 where
   pub names-64 : length (A .names) ≡ 64
   pub least : 67 ≤ A .count

@@ -13,6 +13,7 @@ use Rattle.codeword.specs.Codeword.{unpacked}
 use Rattle.codeword.specs.declared.Codeword.{Codeword}
 use Rattle.ledger.specs.Doors.{element, off}
 
+-- on after a step that was granted
 abbrev pub and-then : {A B : Type 0} → Result A Refusal → (A → Result B Refusal) → Result B Refusal
 and-then (Ok a) f = f a
 and-then (Err r) f = Err r

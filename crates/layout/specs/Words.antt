@@ -20,10 +20,12 @@ pub data Says : Type 0 where
   back : (a : ℕ) → Says  -- a back-reference
   datum : (w : ℕ) → Says  -- any other word
 
+-- what stands at an address
 pub record Cell : Type 0 where
   pub at : ℕ
   pub says : Says
 
+-- the word that says it
 abbrev pub word : Says → ℕ
 word (label s n b q t) = packed (labelling (s + 1) n b q t)
 word none = 0
@@ -35,9 +37,11 @@ abbrev pub cells-along : {X : Type 0} → (ℕ → X → List Cell) → ℕ → 
 cells-along f a [] = []
 cells-along f a (x ∷ xs) = f a x ++ cells-along f (a + 1) xs
 
+-- one word of data
 abbrev pub datum-at : ℕ → ℕ → List Cell
 datum-at y v = record { at = y; says = datum v } ∷ []
 
+-- the codeword at an address and the block that it labels, with its back-reference
 abbrev pub cells-spot : {A : Type 0} → (ℕ → A → List Cell) → ℕ → Spot A → List Cell
 cells-spot f a Vacant = record { at = a; says = none } ∷ []
 cells-spot f a (Data s b t ws) =
@@ -60,14 +64,17 @@ abbrev pub gap-cells : List Piece → List Cell
 gap-cells [] = []
 gap-cells (g ∷ gs) = record { at = g .start; says = datum (g .size + 2 ^ 18 * first-of gs) } ∷ gap-cells gs
 
+-- T: the words in all gaps
 abbrev pub total : List Piece → ℕ
 total gs = sum (map (λ (g : Piece). g .size) gs)
 
+-- header, gaps and names, each address with what it says
 abbrev pub cells-of : Arrangement → List Cell
 cells-of A =
     record { at = 0; says = datum (total (A .gaps) + 2 ^ 18 * first-of (A .gaps)) }
     ∷ gap-cells (A .gaps) ++ cells-along (cells 4) 1 (A .names)
 
+-- a list of words with the cells written into it
 abbrev pub written : List Cell → List ℕ → List ℕ
 written [] ws = ws
 written (c ∷ cs) ws = written cs (set ws (c .at) (word (c .says)))

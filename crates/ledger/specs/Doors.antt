@@ -17,6 +17,7 @@ unfoldable pub door : {A : Type 0} → Bool → Refusal → Outcome A → Outcom
 door true r o = turned r
 door false r o = o
 
+-- the same outcome, seen from one block higher
 unfoldable pub put : {A B : Type 0} → (A → B) → Outcome A → Outcome B
 put f (turned r) = turned r
 put f (passed n m a x) = passed n m a (f x)
@@ -34,9 +35,11 @@ element b i = natAbs (i -ℤ b)
 abbrev pub off : ℤ → ℕ → ℤ → Bool
 off b n i = not (leZ b i && ltZ i (b +ℤ pos n))
 
+-- outside −32,768 to 32,767
 abbrev pub bad-base : ℤ → Bool
 bad-base b = not (leZ (negsuc 32_767) b && leZ b (pos 32_767))
 
+-- fields that no block taken at a step can have
 abbrev pub bad-fields : ℤ → Bool → ℕ → ℕ → Bool
 bad-fields b codes t step = (bad-base b || ltb 2 t) || (codes && (not (eqb t 0) || eqb step 4))
 

@@ -20,6 +20,7 @@ down empty further j i (Table b ts) =
     door (off b (length ts) i) (OutOfBounds j)
     (put (λ u. Table b (set ts (element b i) u)) (further (getD ts (element b i) empty)))
 
+-- the walk from a tree on, with what comes of the deed at its end
 abbrev pub walk : (d : ℕ) → ℕ → List ℤ → Deed → Tree d → Outcome (Tree d)
 walk zero j is a t = turned (Unlabelled j)
 walk (suc d) j [] a t = done-at (bare d) (W d) j a t
@@ -30,10 +31,12 @@ unfoldable pub ask : Trees → Booking → Outcome Trees
 ask ts b =
     put (set ts (b .trace .name - 1)) (walk 4 1 (subscripts (b .trace)) (b .deed) (tree-of ts (b .trace .name)))
 
+-- granted if there is room, else refused and nothing changes
 abbrev pub settle : Bool → Answer → (after before : Trees) → Reply × Trees
 settle true a after before = (granted a, after)
 settle false a after before = (refused NoRoom, before)
 
+-- the last door
 abbrev pub room : ℕ → Trees → Outcome Trees → Reply × Trees
 room count ts (turned r) = (refused r, ts)
 room count ts (passed needs releases a ts′) = settle (leb needs (free count ts + releases)) a ts′ ts

@@ -22,6 +22,7 @@ needs (Delete i n) = 0
 needs (Rebase b) = 0
 needs (Exchange i j) = 0
 
+-- by a booking where the tree at its place takes up w words
 abbrev pub released : Deed → ℕ → ℕ
 released (Take n b c t) w = w
 released Free w = 0
@@ -35,6 +36,7 @@ released (Delete i n) w = 0
 released (Rebase b) w = 0
 released (Exchange i j) w = 0
 
+-- W of what an element of a table leads to
 abbrev pub weight-below : {A : Type 0} → A → (A → ℕ) → ℤ → Node A → ℕ
 weight-below empty further i Nothing = 0
 weight-below empty further i (Row b t ws) = 0
@@ -46,5 +48,6 @@ weight-at zero is t = 0
 weight-at (suc d) [] t = W (suc d) t
 weight-at (suc d) (i ∷ is) t = weight-below (bare d) (weight-at d is) i t
 
+-- by a booking over the trees
 unfoldable pub releases : Trees → Booking → ℕ
 releases ts b = released (b .deed) (weight-at 4 (subscripts (b .trace)) (tree-of ts (b .trace .name)))

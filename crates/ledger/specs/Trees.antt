@@ -15,14 +15,17 @@ abbrev pub Tree : ℕ → Type 0
 Tree zero = Unit {0}
 Tree (suc d) = Node (Tree d)
 
+-- the tree of nothing
 abbrev pub bare : (d : ℕ) → Tree d
 bare zero = tt
 bare (suc d) = Nothing
 
+-- of a list of numbers
 abbrev pub sum : List ℕ → ℕ
 sum [] = 0
 sum (x ∷ xs) = x + sum xs
 
+-- the words of one block, with those of what lies below
 abbrev pub weigh : {A : Type 0} → (A → ℕ) → Node A → ℕ
 weigh below Nothing = 0
 weigh below (Row b t ws) = 1 + length ws
@@ -37,9 +40,11 @@ W (suc d) t = weigh (W d) t
 abbrev pub Trees : Type 0
 Trees = List (Tree 4)
 
+-- nothing under any name
 abbrev pub no-trees : Trees
 no-trees = replicate 64 Nothing
 
+-- the tree under a name
 abbrev pub tree-of : Trees → ℕ → Tree 4
 tree-of ts name = getD ts (name - 1) Nothing
 

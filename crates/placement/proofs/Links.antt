@@ -16,8 +16,8 @@ use Rattle.layout.proofs.Cover.{covers-yes, each-++}
 use Rattle.layout.proofs.Chains.{Outside, chain-join, chain-keep, chain-same, chain-split, first-++, first-at, first-or, here-is, last-++, outside, outside-last, relink, rising-first, rising-right, rising-total, rising-upto, seg-keep}
 use Rattle.layout.proofs.Refine.{total-++}
 use Rattle.placement.specs.Links.{Ahead, Sought, spliced}
-use Rattle.placement.specs.Moves.{cleared}
-use Rattle.placement.proofs.Moves.{cleared-above, cleared-at, cleared-below, length-cleared}
+use Rattle.store.specs.Edits.{zeroed}
+use Rattle.store.proofs.Zeroed.{zeroed-above, zeroed-at, zeroed-below, length-zeroed}
 
 -- ── Where the walk stands ──────────────────────────────────────────────
 
@@ -179,42 +179,42 @@ module _ (ws : List ℕ) (B F : List Piece) (p : Piece) (G : Chained ws (B ++ F)
       }
 
 -- words of a loose piece made 0: the chain stays
-blanked : (ws : List ℕ) (gs : List Piece) (p : Piece) → Chained ws gs → Loose p gs (length ws) → Chained (cleared (p .size) (p .start) ws) gs
+blanked : (ws : List ℕ) (gs : List Piece) (p : Piece) → Chained ws gs → Loose p gs (length ws) → Chained (zeroed ws (p .start) (p .size)) gs
 blanked ws gs p G L =
-    let us = cleared (p .size) (p .start) ws in
-    let long = length-cleared (p .size) (p .start) ws in
+    let us = zeroed ws (p .start) (p .size) in
+    let long = length-zeroed ws (p .start) (p .size) in
     let hi = L .high in
     record {
       few = rw long (G .few);
       rising = rw long (G .rising);
-      header = cleared-below (p .size) (p .start) ws 0 (omega arith) ∙ G .header;
+      header = zeroed-below ws (p .start) (p .size) 0 (omega arith) ∙ G .header;
       chain = chain-same ws us 65 gs (length ws) (G .rising)
           (λ y h.
           elim (cases-lt y (p .start)) [
-            | inl k ↦ cleared-below (p .size) (p .start) ws y k
+            | inl k ↦ zeroed-below ws (p .start) (p .size) y k
             | inr k ↦ elim (cases-lt y (p .start + p .size)) [
               | inl m ↦
                   absurd (h (subst (λ (j : ℕ). Outside j gs) (let v : p .start + (y - p .start) ≡ y = omega arith in v)
                   (loose-outside p gs (length ws) L (y - p .start) (omega arith))))
-              | inr m ↦ cleared-above (p .size) (p .start) ws y m
+              | inr m ↦ zeroed-above ws (p .start) (p .size) y m
             ]
           ])
           (G .chain);
     }
 
 pub linked : (ws : List ℕ) (gs : List Piece) (p : Piece) (here next : ℕ) → Chained ws gs → Loose p gs (length ws)
-    → ((hs : List Piece) → Chained (cleared (p .size) (p .start) ws) hs → Sought (p .start) hs here next)
-    → Relinked ws (spliced here next (p .start) (p .size) (cleared (p .size) (p .start) ws)) (p ∷ gs) (link p gs)
+    → ((hs : List Piece) → Chained (zeroed ws (p .start) (p .size)) hs → Sought (p .start) hs here next)
+    → Relinked ws (spliced here next (p .start) (p .size) (zeroed ws (p .start) (p .size))) (p ∷ gs) (link p gs)
 linked ws gs p here next G L seek =
-    let us = cleared (p .size) (p .start) ws in
-    let long = length-cleared (p .size) (p .start) ws in
+    let us = zeroed ws (p .start) (p .size) in
+    let long = length-zeroed ws (p .start) (p .size) in
     let G′ = blanked ws gs p G L in
     let S = seek gs G′ in
     let B = S .before in
     let F = S .after in
     let L′ : Loose p gs (length us) = rw long L in
     let D = splices us B F p (subst (Chained us) (S .split) G′) (subst (λ (hs : List Piece). Loose p hs (length us)) (S .split) L′)
-    (λ k lo hi. cleared-at (p .size) (p .start) ws (p .start + k) (omega arith) (omega arith)) (S .behind) (S .ahead) in
+    (λ k lo hi. zeroed-at ws (p .start) (p .size) (p .start + k) (omega arith) (omega arith)) (S .behind) (S .ahead) in
     let is : spliced (last-of 0 B) (first-of F) (p .start) (p .size) us ≡ spliced here next (p .start) (p .size) us =
     ap (λ (k : ℕ). spliced k (first-of F) (p .start) (p .size) us) (sym (S .link-is))
     ∙ ap (λ (k : ℕ). spliced here k (p .start) (p .size) us) (sym (S .next-is)) in
@@ -224,5 +224,5 @@ linked ws gs p here next G L seek =
       chained = subst (Chained (spliced (last-of 0 B) (first-of F) (p .start) (p .size) us)) (sym same) (D .chained);
       kept = λ y h o.
           D .kept y h (subst (λ (hs : List Piece). covered y (p ∷ hs) ≡ 0) (S .split) o)
-          ∙ elim (outside y (p ∷ gs) o .0) [ inl k ↦ cleared-below (p .size) (p .start) ws y k | inr k ↦ cleared-above (p .size) (p .start) ws y k ];
+          ∙ elim (outside y (p ∷ gs) o .0) [ inl k ↦ zeroed-below ws (p .start) (p .size) y k | inr k ↦ zeroed-above ws (p .start) (p .size) y k ];
     }

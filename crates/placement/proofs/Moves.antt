@@ -1,5 +1,5 @@
 -- The list functions that the loops compute: each turn, and each word after.
-use Prim.Native.Nat.{ℕ, zero, suc, _+_, _-_, _^_, _<_, _≤_, max, min}
+use Prim.Native.Nat.{ℕ, zero, suc, _+_, _-_, _<_, _≤_}
 use lib.Dec.{ltb}
 use lib.ListN.{getD, length, set}
 use mathlib.Core.Bool.{Bool, cond}
@@ -12,7 +12,7 @@ use Rattle.codeword.specs.Codeword.{unpacked}
 use Rattle.std.proofs.shelf.Lists.{getD-past, getD-set-other, getD-set-same, length-set, set-past}
 use Rattle.std.proofs.shelf.Tests.{cases-eq, cases-lt, cond-both}
 use Rattle.layout.proofs.Step.{copied-above, copied-below, copied-in, copied-word}
-use Rattle.placement.specs.Moves.{aimed, cleared, copied, renewed, stepped}
+use Rattle.placement.specs.Moves.{aimed, copied, renewed, stepped}
 
 -- after a set the word at k is the new one, at its address within the words, and else the old one
 pub at-set : (ws : List ℕ) (a w k : ℕ) → ((k ≡ a) × (a < length ws) × (getD (set ws a w) k 0 ≡ w)) ⊎ ((k ≡ a → length ws ≤ a) × (getD (set ws a w) k 0 ≡ getD ws k 0))
@@ -81,58 +81,3 @@ length-stepped from to ws =
     let e : length v ≡ length ws = length-set u o (aimed c (to + 1)) ∙ length-copied (n + 1) from to ws in
     ap length (stepped-is from to ws o c n (unpacked c .r) refl refl refl refl)
     ∙ cond-both (unpacked c .r) (renewed n (to + 1) v) v (λ u. length u ≡ length ws) (λ _. length-renewed n (to + 1) v ∙ e) (λ _. e)
-
--- ── Zeros ──────────────────────────────────────────────────────────────
-
-pub length-cleared : (n from : ℕ) (ws : List ℕ) → length (cleared n from ws) ≡ length ws
-unfolding cleared
-length-cleared zero from ws = refl
-length-cleared (suc n) from ws = length-set _ _ _ ∙ length-cleared n from ws
-
-pub cleared-below : (n from : ℕ) (ws : List ℕ) (k : ℕ) → k < from → getD (cleared n from ws) k 0 ≡ getD ws k 0
-unfolding cleared
-cleared-below zero from ws k h = refl
-cleared-below (suc n) from ws k h = getD-set-other _ (from + n) k 0 0 (λ e. omega arith) ∙ cleared-below n from ws k h
-
-pub cleared-above : (n from : ℕ) (ws : List ℕ) (k : ℕ) → from + n ≤ k → getD (cleared n from ws) k 0 ≡ getD ws k 0
-unfolding cleared
-cleared-above zero from ws k h = refl
-cleared-above (suc n) from ws k h = getD-set-other _ (from + n) k 0 0 (λ e. omega arith) ∙ cleared-above n from ws k (omega arith)
-
-pub cleared-at : (n from : ℕ) (ws : List ℕ) (k : ℕ) → from ≤ k → k < from + n → getD (cleared n from ws) k 0 ≡ 0
-unfolding cleared
-cleared-at zero from ws k h l = absurd (omega arith)
-cleared-at (suc n) from ws k h l =
-    elim (at-set (cleared n from ws) (from + n) 0 k) [
-      | inl s ↦ s .2
-      | inr s ↦ elim (cases-eq k (from + n)) [
-        | inl e ↦ s .1 ∙ getD-past _ k 0 (omega (arith, s .0 e))
-        | inr ne ↦ let p : k ≢ from + n = ne in s .1 ∙ cleared-at n from ws k h (omega arith)
-      ]
-    ]
-
--- past the end there is nothing to zero
-cleared-past : (n k from : ℕ) (ws : List ℕ) → k ≤ n → length ws ≤ from + k → cleared n from ws ≡ cleared k from ws
-unfolding cleared
-cleared-past zero k from ws h l = ap (λ (i : ℕ). cleared i from ws) (let p : 0 ≡ k = omega arith in p)
-cleared-past (suc n) k from ws h l =
-    elim (cases-lt n k) [
-      | inl m ↦ ap (λ (i : ℕ). cleared i from ws) (let p : suc n ≡ k = omega arith in p)
-      | inr m ↦ set-past (cleared n from ws) (from + n) 0 (omega (arith, length-cleared n from ws)) ∙ cleared-past n k from ws m l
-    ]
-
--- one turn of `clear`, and its end
-pub clear-turn : (ws us : List ℕ) (from at : ℕ) → from ≤ at → us ≡ cleared (at - from) from ws → set us at 0 ≡ cleared (at + 1 - from) from ws
-unfolding cleared
-clear-turn ws us from at h e =
-    ap (λ (vs : List ℕ). set vs at 0) e
-    ∙ ap (λ (k : ℕ). set (cleared (at - from) from ws) k 0) (let p : at ≡ from + (at - from) = omega arith in p)
-    ∙ ap (λ (k : ℕ). cleared k from ws) (let p : suc (at - from) ≡ at + 1 - from = omega arith in p)
-
-pub clear-end : (ws : List ℕ) (from n at end : ℕ) → length ws ≤ 2 ^ 18 → end ≡ min (min (from + n) (2 ^ 64 - 1)) (length ws) → from ≤ at → at ≤ max from end → end ≤ at
-    → cleared (at - from) from ws ≡ cleared n from ws
-clear-end ws from n at end few is lo hi done =
-    elim (cases-lt (at - from) n) [
-      | inl l ↦ sym (cleared-past n (at - from) from ws (omega arith) (omega arith))
-      | inr l ↦ ap (λ (k : ℕ). cleared k from ws) (omega arith)
-    ]

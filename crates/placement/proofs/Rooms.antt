@@ -1,4 +1,4 @@
--- Finding room: S1, then S2 and S1, then S3 and S1.
+-- Finding room: in the first gap that fits, else once gaps are combined, else once blocks are closed up.
 use Prim.Native.Nat.{ℕ, _-_, _<_, _≤_}
 use mathlib.Core.List.{List, [], _∷_}
 use mathlib.Core.Logic.{inl, inr}

@@ -19,8 +19,8 @@ use Rattle.layout.proofs.Laws.{tidy-left}
 use Rattle.layout.proofs.Order.{Tile}
 use Rattle.layout.proofs.Scan.{Walk}
 use Rattle.placement.specs.Gaps.{gap-from}
-use Rattle.placement.specs.Moves.{cleared}
-use Rattle.placement.proofs.Moves.{cleared-at, cleared-below, length-cleared}
+use Rattle.store.specs.Edits.{zeroed}
+use Rattle.store.proofs.Zeroed.{zeroed-at, zeroed-below, length-zeroed}
 
 module _ (at : ℕ) (ws : List ℕ) where
   abbrev left : ℕ
@@ -29,13 +29,13 @@ module _ (at : ℕ) (ws : List ℕ) where
   none-left : left ≡ 0 → gap-from at ws ≡ set ws 0 (head-word 0 0)
   none-left e = cond-true _ _ _ (eq-eqb left 0 e)
 
-  some-left : 1 ≤ left → gap-from at ws ≡ set (set (cleared left at ws) at (head-word left 0)) 0 (head-word left at)
+  some-left : 1 ≤ left → gap-from at ws ≡ set (set (zeroed ws at left) at (head-word left 0)) 0 (head-word left at)
   some-left h = cond-false _ _ _ (ne-eqb left 0 (λ e. omega arith))
 
   pub length-gap-from : length (gap-from at ws) ≡ length ws
   length-gap-from =
       elim (cases-lt 0 left) [
-        | inl h ↦ ap length (some-left h) ∙ length-set _ 0 _ ∙ length-set _ at _ ∙ length-cleared left at ws
+        | inl h ↦ ap length (some-left h) ∙ length-set _ 0 _ ∙ length-set _ at _ ∙ length-zeroed ws at left
         | inr h ↦ ap length (none-left (omega arith)) ∙ length-set ws 0 _
       ]
 
@@ -44,17 +44,17 @@ module _ (at : ℕ) (ws : List ℕ) where
       elim (cases-lt 0 left) [
         | inl h ↦
             ap (λ (us : List ℕ). getD us y 0) (some-left h)
-            ∙ getD-set-other _ 0 y _ 0 (λ e. omega arith) ∙ getD-set-other _ at y _ 0 (λ e. omega arith) ∙ cleared-below left at ws y hi
+            ∙ getD-set-other _ 0 y _ 0 (λ e. omega arith) ∙ getD-set-other _ at y _ 0 (λ e. omega arith) ∙ zeroed-below ws at left y hi
         | inr h ↦ ap (λ (us : List ℕ). getD us y 0) (none-left (omega arith)) ∙ getD-set-other ws 0 y _ 0 (λ e. omega arith)
       ]
 
   module _ (lo : 65 ≤ at) (hi : at ≤ length ws) (few : length ws ≤ 2 ^ 18) where
     chained-some : 1 ≤ left → Chained (gap-from at ws) (record { start = at; size = left } ∷ [])
     chained-some h =
-        let vs = cleared left at ws in
+        let vs = zeroed ws at left in
         let ts = set vs at (head-word left 0) in
         let us = set ts 0 (head-word left at) in
-        let lv = length-cleared left at ws in
+        let lv = length-zeroed ws at left in
         let lt : length ts ≡ length ws = length-set vs at _ ∙ lv in
         let lu : length us ≡ length ws = length-set ts 0 _ ∙ lt in
         subst (λ (xs : List ℕ). Chained xs (record { start = at; size = left } ∷ [])) (sym (some-left h)) record {
@@ -68,7 +68,7 @@ module _ (at : ℕ) (ws : List ℕ) where
             (λ k low high.
                 getD-set-other ts 0 (at + k) _ 0 (λ e. omega arith)
                 ∙ getD-set-other vs at (at + k) _ 0 (λ e. omega arith)
-                ∙ cleared-at left at ws (at + k) (omega arith) (omega arith)),
+                ∙ zeroed-at ws at left (at + k) (omega arith) (omega arith)),
             tt,
           );
         }

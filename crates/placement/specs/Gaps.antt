@@ -11,7 +11,7 @@ use Rattle.layout.specs.Chains.{Relinked, head-word, last-of, next-at, size-at}
 use Rattle.layout.specs.Gaps.{Fit, gap-at, no-gap}
 use Rattle.layout.specs.Sound.{Each}
 use Rattle.layout.specs.Words.{first-of}
-use Rattle.placement.specs.Moves.{cleared}
+use Rattle.store.specs.Edits.{zeroed}
 
 -- the address that a search for n words answers is 0 exactly when no gap is large enough; else the first that is begins there
 pub record Finds (n : ℕ) (gs : List Piece) (at : ℕ) : Type 0 where
@@ -67,4 +67,4 @@ abbrev pub gap-from : ℕ → List ℕ → List ℕ
 gap-from at ws =
     let left : ℕ = length ws - at in
     cond (eqb left 0) (set ws 0 (head-word 0 0))
-    (set (set (cleared left at ws) at (head-word left 0)) 0 (head-word left at))
+    (set (set (zeroed ws at left) at (head-word left 0)) 0 (head-word left at))

@@ -47,7 +47,3 @@ Over-gap at to link ws at′ to′ link′ ws′ = (at′ ≡ at + max (size-at 
 abbrev pub Over-block : (at to link : ℕ) → List ℕ → (at′ to′ link′ : ℕ) → List ℕ → Type 0
 Over-block at to link ws at′ to′ link′ ws′ = (at′ ≡ at + block-size ws at) × (to′ ≡ to + block-size ws at) × (link′ ≡ link) × (ws′ ≡ stepped at to ws)
 
--- n words from `from` on become 0
-unfoldable pub cleared : ℕ → ℕ → List ℕ → List ℕ
-cleared zero from ws = ws
-cleared (suc i) from ws = set (cleared i from ws) (from + i) 0

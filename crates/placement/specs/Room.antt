@@ -20,7 +20,7 @@ pub record Roomed (n : ℕ) (f : Found) (at : ℕ) (ws : List ℕ) : Type 0 wher
   -- they are 0 past the first
   pub clean : (k : ℕ) → 1 ≤ k → k < n → getD ws (at + k) 0 ≡ 0
 
--- where gaps have n words in all, room is found as S1, S2 and S3 find it
+-- where gaps have n words in all, room is found as the rules say
 abbrev pub Room : ℕ → List ℕ → ℕ → List ℕ → Type 0
 Room n ws at ws′ = (A : Arrangement) → Sound A → Displays ws A → 1 ≤ n → n ≤ total (A .gaps) → Roomed n (find n A) at ws′
 

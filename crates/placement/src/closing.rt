@@ -7,9 +7,9 @@ ghost use lib.ListN.{length};
 ghost use mathlib.Core.Path.{_≡_};
 use crate::chain::head_at;
 use crate::chain::put_head;
-use crate::mover::clear;
 use crate::mover::move_block;
 use store::Store;
+use store::clear;
 
 /// Makes the words from `at` on the only gap; if there are none, there is no gap.
 pub fn leave_gap<S: Store>(store: &mut S, at: u64)

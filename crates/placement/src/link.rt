@@ -7,8 +7,8 @@ ghost use mathlib.Core.List.{List, _∷_};
 ghost use mathlib.Core.Path.{_≡_};
 use crate::chain::head_at;
 use crate::chain::put_head;
-use crate::mover::clear;
 use store::Store;
+use store::clear;
 
 /// Where a piece from `at` on belongs in the chain: the address of the word to link from, and that of the next gap.
 fn seek<S: Store>(store: &S, at: u64) -> (u64, u64)

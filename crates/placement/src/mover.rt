@@ -1,5 +1,5 @@
 ghost use Prim.Native.Nat.{_+_, _<_, _^_, _≤_};
-ghost use Rattle.placement.specs.Moves.{aimed, block-size, cleared, copied, renewed, renewed-at, stepped};
+ghost use Rattle.placement.specs.Moves.{aimed, block-size, copied, renewed, renewed-at, stepped};
 ghost use lib.ListN.{getD, set};
 ghost use mathlib.Core.Path.{_≡_};
 use crate::chain::FIELD;
@@ -73,15 +73,4 @@ pub fn move_block<S: Store>(store: &mut S, from: u64, to: u64) -> u64
         renew(store, to + 1, label.length);
     }
     label.length + 1
-}
-
-/// Zeros `n` words from `from` on, as far as there are words.
-pub fn clear<S: Store>(store: &mut S, from: u64, n: u64)
-    ensures words { λ _. ⌜ S·Store .words (now (store .exit)) ≡ cleared n from (S·Store .words (now (store .entry))) ⌝ }
-    ensures rest { λ _. ⌜ S·Store .rest (now (store .exit)) ≡ S·Store .rest (now (store .entry)) ⌝ }
-{
-    let end = from.saturating_add(n).min(store.count());
-    for at in from..end {
-        put(store, at, 0);
-    }
 }
