@@ -13,7 +13,7 @@ use Rattle.codeword.specs.Codeword.{unpacked}
 use Rattle.codeword.specs.declared.Codeword.{Codeword}
 use Rattle.ledger.specs.Doors.{element, off}
 use Rattle.layout.specs.Walks.{and-then, chosen, gone-down}
-use Rattle.layout.proofs.Signs.{element-lt}
+use Rattle.ledger.proofs.Signs.{element-lt}
 
 pub chosen-lt : (c : Codeword) (i : ℤ) (j k : ℕ) → Ok k ≡ chosen c i j → k < c .length
 unfolding chosen

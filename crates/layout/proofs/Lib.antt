@@ -18,7 +18,6 @@ pub mod Grown
 pub mod Laws
 pub mod Made
 pub mod Shown
-pub mod Signs
 pub mod Gone
 pub mod Walked
 pub mod Place

@@ -36,7 +36,7 @@ use Rattle.layout.proofs.Change.{each-get, name-in}
 use Rattle.layout.proofs.Decode.{fits, trees-told}
 use Rattle.layout.proofs.Gone.{gone-nothing, gone-row, gone-table}
 use Rattle.layout.proofs.Refine.{tree-vacant}
-use Rattle.layout.proofs.Signs.{element-lt}
+use Rattle.ledger.proofs.Signs.{element-lt}
 
 -- ── One element of a list ──────────────────────────────────────────────
 

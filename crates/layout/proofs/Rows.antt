@@ -35,7 +35,7 @@ use Rattle.layout.proofs.Frame.{cell, wrote}
 use Rattle.layout.proofs.Gone.{through-ok}
 use Rattle.layout.proofs.Owed.{granted-now, granted-owes, place-owes}
 use Rattle.layout.proofs.Place.{Reached, Stands, along-get, booked, came, door-open, door-shut, replied, reply, shown-label, spread-at, subscripts-count}
-use Rattle.layout.proofs.Signs.{element-lt}
+use Rattle.ledger.proofs.Signs.{element-lt}
 
 -- ── One step, on words ─────────────────────────────────────────────────
 

@@ -38,7 +38,7 @@ use Rattle.layout.proofs.Owed.{granted-now, granted-owes, place-owes}
 use Rattle.layout.proofs.Place.{along-get, booked, door-open, door-shut, replied, reply}
 use Rattle.layout.proofs.Rewritten.{rewrote, written-++}
 use Rattle.layout.proofs.Rows.{Selected, element-inside, few-words, picked}
-use Rattle.layout.proofs.Signs.{element-lt}
+use Rattle.ledger.proofs.Signs.{element-lt}
 
 -- ── Rows of data ───────────────────────────────────────────────────────
 

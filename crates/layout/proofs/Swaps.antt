@@ -27,7 +27,7 @@ use Rattle.layout.proofs.Exchanges.{exchange-shown}
 use Rattle.layout.proofs.Gone.{gone-nothing, gone-row, gone-table}
 use Rattle.layout.proofs.Owed.{granted-now, granted-owes, place-owes}
 use Rattle.layout.proofs.Place.{Reached, Stands, booked, came, door-open, door-shut, reply, shown-label, subscripts-count}
-use Rattle.layout.proofs.Signs.{element-lt}
+use Rattle.ledger.proofs.Signs.{element-lt}
 
 module _ (ws : List ℕ) (few : length ws ≤ 2 ^ 18) (A : Arrangement) (t : Trace) (at : ℕ) (z : ℤ) where
   abbrev j : ℕ

@@ -1,2 +1,4 @@
+pub mod Signs
 pub mod Asked
 pub mod Room
+pub mod ReadBack

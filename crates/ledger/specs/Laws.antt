@@ -3,8 +3,11 @@ use mathlib.Core.List.{List}
 use mathlib.Core.Logic.{_↔_}
 use mathlib.Core.Path.{_≡_}
 use Prim.Native.Nat.{ℕ, _+_, _<_, _≤_}
-use Rattle.booking.specs.Bookings.{Booking, refused}
+use lib.IntN.{ℤ}
+use lib.ListN.{length}
+use Rattle.booking.specs.Bookings.{Booking, Done, Read, Row-read, Row-write, Word, Words, Write, granted, on, refused}
 use Rattle.booking.specs.declared.refusal.Refusal.the-variants.{NoRoom}
+use Rattle.booking.specs.declared.trace.Trace.{Trace}
 use Rattle.ledger.specs.Doors.{Past}
 use Rattle.ledger.specs.Ledger.{ask, book}
 use Rattle.ledger.specs.Needs.{needs, releases}
@@ -23,3 +26,16 @@ Larger-grants-alike =
     (m n : ℕ) → m ≤ n → (ts : Trees) (bs : List Booking)
     → (replies n ts (granted-of bs (replies m ts bs)) ≡ grants (replies m ts bs))
     × (trees-after n ts (granted-of bs (replies m ts bs)) ≡ trees-after m ts bs)
+
+-- what one kind wrote at a place, one word or a row, the same kind reads there
+abbrev pub Written-is-read : Type 0
+Written-is-read =
+    (count : ℕ) (ts : Trees) → length ts ≡ 64 → (t : Trace) (kind : ℕ) (i : ℤ) (w : ℕ)
+    → book count ts (on t (Write kind i w)) .0 ≡ granted Done
+    → book count (book count ts (on t (Write kind i w)) .1) (on t (Read kind i)) .0 ≡ granted (Word w)
+
+abbrev pub Row-written-is-read : Type 0
+Row-written-is-read =
+    (count : ℕ) (ts : Trees) → length ts ≡ 64 → (t : Trace) (kind : ℕ) (i : ℤ) (vs : List ℕ)
+    → book count ts (on t (Row-write kind i vs)) .0 ≡ granted Done
+    → book count (book count ts (on t (Row-write kind i vs)) .1) (on t (Row-read kind i (length vs))) .0 ≡ granted (Words vs)

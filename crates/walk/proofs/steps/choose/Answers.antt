@@ -10,7 +10,7 @@ use Rattle.std.proofs.shelf.Signed.{ints}
 use Rattle.std.proofs.shelf.Tests.{cond-true, cond-false}
 use Rattle.std.specs.declared.result.Result.the-variants.{Ok}
 use Rattle.layout.specs.Walks.{chosen}
-use Rattle.layout.proofs.Signs.{off-yes, off-no}
+use Rattle.ledger.proofs.Signs.{off-yes, off-no}
 use Rattle.walk.proofs.Widths.{widened}
 use Rattle.walk.proofs.steps.choose.Needs as need
 use Rattle.walk.proofs.steps.choose.Needs.{then-offset-lt0·by·then-offset-lt0, then-offset-lt0·by·else-offset-lt0·then-offset-label}
