@@ -32,7 +32,10 @@ fn main(rt: LibcRuntime) -> io::Result<()> {
             second: ByteBank { lent: &mut bytes },
         },
     };
-    println!(rt, "Two banks are joined to one store: 40 words, and 283 bytes that make 35 words.")?;
+    println!(
+        rt,
+        "Two banks are joined to one store: 40 words, and 283 bytes that make 35 words."
+    )?;
     open(&rt, &mut keeper)?;
     ask_names(&rt, &keeper)?;
     ask_wrongly(&rt, &keeper)?;
@@ -60,7 +63,10 @@ fn open<S: Store>(rt: &LibcRuntime, keeper: &mut Keeper<S>) -> io::Result<()> {
         Err(refusal) => tell(rt, refusal)?,
     }
     let total = keeper.total();
-    println!(rt, "  One word is the header and 64 are for the names; {total} are free.")
+    println!(
+        rt,
+        "  One word is the header and 64 are for the names; {total} are free."
+    )
 }
 
 // Asks for the span of every name.
@@ -72,7 +78,10 @@ fn ask_names<S: Store>(rt: &LibcRuntime, keeper: &Keeper<S>) -> io::Result<()> {
         };
         match keeper.span(&trace) {
             Ok(None) => empty = empty.saturating_add(1),
-            Ok(Some((base, length, _, _))) => println!(rt, "  Name {name}: {length} elements from {base} on.")?,
+            Ok(Some((base, length, _, _))) => println!(
+                rt,
+                "  Name {name}: {length} elements from {base} on."
+            )?,
             Err(refusal) => tell(rt, refusal)?,
         }
     }
@@ -86,7 +95,10 @@ fn ask_wrongly<S: Store>(rt: &LibcRuntime, keeper: &Keeper<S>) -> io::Result<()>
         Ok(_) => println!(rt, "  is a name.")?,
         Err(refusal) => tell(rt, refusal)?,
     }
-    println!(rt, "Name 1, then element 1, element 2, element 3, and element 4 of that:")?;
+    println!(
+        rt,
+        "Name 1, then element 1, element 2, element 3, and element 4 of that:"
+    )?;
     match fourth_step() {
         Ok(_) => println!(rt, "  can be reached.")?,
         Err(refusal) => tell(rt, refusal)?,

@@ -19,7 +19,8 @@ fn reason(refusal: Refusal) -> &'static str {
         Refusal::UnknownName => "names are 1 to 64",
         Refusal::TooDeep => "a table goes no deeper than three subscripts",
         Refusal::Unlabelled(_) => "nothing is booked there",
-        Refusal::WrongSort(_) => "there is a row where a table is wanted, or a table where a row is",
+        Refusal::WrongSort(_) =>
+            "there is a row where a table is wanted, or a table where a row is",
         Refusal::OutOfBounds(_) => "there is no such element",
         Refusal::WrongType => "the row holds items of another kind",
         Refusal::BadField => "no row or table can have that base, type or depth",

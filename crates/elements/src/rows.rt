@@ -14,7 +14,12 @@ use store::put;
 use store::word;
 
 /// One data element of a block whose type is the number, as an item of the kind.
-pub fn read<S: Store, K: Kind>(store: &S, trace: &Trace, number: u64, subscript: i32) -> Result<K::Item, Refusal>
+pub fn read<S: Store, K: Kind>(
+    store: &S,
+    trace: &Trace,
+    number: u64,
+    subscript: i32,
+) -> Result<K::Item, Refusal>
     ensures { λ r. ⌜ Answers (S·Store .words (now (store .entry))) (on (now (trace .entry)) (Read number subscript)) (read-of (K·Kind .word) r) ⌝ }
 {
     let (at, _) = row(store, trace, number, subscript)?;
@@ -22,7 +27,13 @@ pub fn read<S: Store, K: Kind>(store: &S, trace: &Trace, number: u64, subscript:
 }
 
 /// Replaces one data element of a block whose type is the number.
-pub fn write<S: Store, K: Kind>(store: &mut S, trace: &Trace, number: u64, subscript: i32, item: K::Item) -> Result<(), Refusal>
+pub fn write<S: Store, K: Kind>(
+    store: &mut S,
+    trace: &Trace,
+    number: u64,
+    subscript: i32,
+    item: K::Item,
+) -> Result<(), Refusal>
     ensures booked { λ r. ⌜ Books (S·Store .words (now (store .entry))) (on (now (trace .entry)) (Write number subscript (K·Kind .word item))) (done-of r) (S·Store .words (now (store .exit))) ⌝ }
     ensures rest { λ _. ⌜ S·Store .rest (now (store .exit)) ≡ S·Store .rest (now (store .entry)) ⌝ }
 {
@@ -32,7 +43,13 @@ pub fn write<S: Store, K: Kind>(store: &mut S, trace: &Trace, number: u64, subsc
 }
 
 /// Copies as many data elements as the list has, from the subscript on, into the list. Refused, the list stays as it was.
-pub fn read_row<S: Store, K: Kind>(store: &S, trace: &Trace, number: u64, subscript: i32, items: &mut [K::Item]) -> Result<(), Refusal>
+pub fn read_row<S: Store, K: Kind>(
+    store: &S,
+    trace: &Trace,
+    number: u64,
+    subscript: i32,
+    items: &mut [K::Item],
+) -> Result<(), Refusal>
     ensures booked { λ r. ⌜ Answers (S·Store .words (now (store .entry))) (on (now (trace .entry)) (Row-read number subscript (length (now (items .entry))))) (row-of (K·Kind .word) r (now (items .exit))) ⌝ }
     ensures list { λ r. ⌜ Unless-granted r (now (items .exit) ≡ now (items .entry)) ⌝ }
 {
@@ -48,7 +65,13 @@ pub fn read_row<S: Store, K: Kind>(store: &S, trace: &Trace, number: u64, subscr
 }
 
 /// Replaces as many data elements as the list has, from the subscript on.
-pub fn write_row<S: Store, K: Kind>(store: &mut S, trace: &Trace, number: u64, subscript: i32, items: &[K::Item]) -> Result<(), Refusal>
+pub fn write_row<S: Store, K: Kind>(
+    store: &mut S,
+    trace: &Trace,
+    number: u64,
+    subscript: i32,
+    items: &[K::Item],
+) -> Result<(), Refusal>
     ensures booked { λ r. ⌜ Books (S·Store .words (now (store .entry))) (on (now (trace .entry)) (Row-write number subscript (map (K·Kind .word) (now (items .entry))))) (done-of r) (S·Store .words (now (store .exit))) ⌝ }
     ensures rest { λ _. ⌜ S·Store .rest (now (store .exit)) ≡ S·Store .rest (now (store .entry)) ⌝ }
 {

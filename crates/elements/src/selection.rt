@@ -27,7 +27,12 @@ fn row_of(code: u64, kind: u64, subscript: i32, step: u8) -> Result<(u64, u64), 
 }
 
 /// The data element at the end of a trace: its address, and how many there are from it on.
-pub fn row<S: Store>(store: &S, trace: &Trace, kind: u64, subscript: i32) -> Result<(u64, u64), Refusal>
+pub fn row<S: Store>(
+    store: &S,
+    trace: &Trace,
+    kind: u64,
+    subscript: i32,
+) -> Result<(u64, u64), Refusal>
     ensures { λ r. ⌜ r ≡ row-found (S·Store .words (now (store .entry))) (now (trace .entry)) kind subscript ⌝ }
 {
     let at = walk(store, trace)?;

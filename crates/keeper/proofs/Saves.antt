@@ -1,5 +1,5 @@
 -- Whole stores: every word copied, every word 0.
-use lib.ListN.{drop, length, replicate, take}
+use lib.ListN.{length, replicate, take}
 use mathlib.Core.List.{List, _++_}
 use mathlib.Core.Path.{_≡_, ap, _∙_}
 use native.Mathlib.Omega.{arith}

@@ -20,7 +20,12 @@ impl<S: Store> Keeper<S> {
     }
 
     /// Replaces one data element by an item of the kind.
-    pub fn write<K: Kind>(&mut self, trace: &Trace, subscript: i32, item: K::Item) -> Result<(), Refusal>
+    pub fn write<K: Kind>(
+        &mut self,
+        trace: &Trace,
+        subscript: i32,
+        item: K::Item,
+    ) -> Result<(), Refusal>
         ensures booked { λ r. ⌜ Books (S·Store .words (now (self .entry) .store)) (on (now (trace .entry)) (Write (K·Kind .number) subscript (K·Kind .word item))) (done-of r) (S·Store .words (now (self .exit) .store)) ⌝ }
         ensures rest { λ _. ⌜ S·Store .rest (now (self .exit) .store) ≡ S·Store .rest (now (self .entry) .store) ⌝ }
     {
@@ -28,7 +33,12 @@ impl<S: Store> Keeper<S> {
     }
 
     /// Copies as many data elements as the list has, from the subscript on, into the list. Refused, the list stays as it was.
-    pub fn read_row<K: Kind>(&self, trace: &Trace, subscript: i32, items: &mut [K::Item]) -> Result<(), Refusal>
+    pub fn read_row<K: Kind>(
+        &self,
+        trace: &Trace,
+        subscript: i32,
+        items: &mut [K::Item],
+    ) -> Result<(), Refusal>
         ensures booked { λ r. ⌜ Answers (S·Store .words (now (self .entry) .store)) (on (now (trace .entry)) (Row-read (K·Kind .number) subscript (length (now (items .entry))))) (row-of (K·Kind .word) r (now (items .exit))) ⌝ }
         ensures list { λ r. ⌜ Unless-granted r (now (items .exit) ≡ now (items .entry)) ⌝ }
     {
@@ -36,7 +46,12 @@ impl<S: Store> Keeper<S> {
     }
 
     /// Replaces as many data elements as the list has, from the subscript on.
-    pub fn write_row<K: Kind>(&mut self, trace: &Trace, subscript: i32, items: &[K::Item]) -> Result<(), Refusal>
+    pub fn write_row<K: Kind>(
+        &mut self,
+        trace: &Trace,
+        subscript: i32,
+        items: &[K::Item],
+    ) -> Result<(), Refusal>
         ensures booked { λ r. ⌜ Books (S·Store .words (now (self .entry) .store)) (on (now (trace .entry)) (Row-write (K·Kind .number) subscript (map (K·Kind .word) (now (items .entry))))) (done-of r) (S·Store .words (now (self .exit) .store)) ⌝ }
         ensures rest { λ _. ⌜ S·Store .rest (now (self .exit) .store) ≡ S·Store .rest (now (self .entry) .store) ⌝ }
     {

@@ -2,6 +2,7 @@
 mod items;
 mod keeper;
 mod make;
+mod plain;
 mod save;
 mod span;
 mod tidy;

@@ -2,12 +2,12 @@ ghost use Rattle.booking.specs.Bookings.{Span, on};
 ghost use Rattle.layout.specs.Booked.{Answers};
 ghost use Rattle.layout.specs.Results.{span-of};
 use crate::keeper::Keeper;
-use walk::walk;
 use booking::Refusal;
 use booking::Trace;
 use codeword::Codeword;
 use store::Store;
 use store::word;
+use walk::walk;
 
 impl<S: Store> Keeper<S> {
     /// Base, length, whether it holds codewords, and type of the block at a trace; none where nothing is labelled.
@@ -20,11 +20,6 @@ impl<S: Store> Keeper<S> {
             return Ok(None);
         }
         let label = Codeword::unpack(code);
-        Ok(Some((
-            label.base as i64,
-            label.length,
-            label.r,
-            label.kind as u64,
-        )))
+        Ok(Some((label.base as i64, label.length, label.r, label.kind as u64)))
     }
 }

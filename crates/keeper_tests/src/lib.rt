@@ -58,8 +58,18 @@ mod tests {
     fn made_over_the_fewest_words() -> Result<(), Fail> {
         let mut least = [9u64; 67];
         let mut fewer = [9u64; 66];
-        check_eq(told(Keeper { store: WordBank { lent: &mut least } }.make()), (0, 0))?;
-        check_eq(told(Keeper { store: WordBank { lent: &mut fewer } }.make()), (2, 0))?;
+        check_eq(
+            told(Keeper {
+                store: WordBank { lent: &mut least },
+            }.make()),
+            (0, 0),
+        )?;
+        check_eq(
+            told(Keeper {
+                store: WordBank { lent: &mut fewer },
+            }.make()),
+            (2, 0),
+        )?;
         check_eq(least[66], 0)?;
         check_eq(fewer[0], 9)
     }
@@ -133,12 +143,21 @@ mod tests {
         let two = Trace::new(2)?;
         check_eq(told(keeper.write_row::<Amounts>(&two, 1, &[5, -6])), (0, 0))?;
         let mut items = [0i64; 2];
-        check_eq(told(keeper.read_row::<Amounts>(&two, 1, &mut items)), (0, 0))?;
+        check_eq(
+            told(keeper.read_row::<Amounts>(&two, 1, &mut items)),
+            (0, 0),
+        )?;
         check_eq(items, [5, -6])?;
-        check_eq(told(keeper.write_row::<Amounts>(&two, 2, &[5, -6])), (10, 0))?;
+        check_eq(
+            told(keeper.write_row::<Amounts>(&two, 2, &[5, -6])),
+            (10, 0),
+        )?;
         check_eq(told(keeper.write_row::<Amounts>(&two, 1, &[])), (10, 0))?;
         check_eq(told(keeper.write_row::<Amounts>(&two, 3, &[])), (7, 1))?;
-        check_eq(told(keeper.read_row::<Amounts>(&two, 2, &mut items)), (10, 0))?;
+        check_eq(
+            told(keeper.read_row::<Amounts>(&two, 2, &mut items)),
+            (10, 0),
+        )?;
         check_eq(items, [5, -6])?;
         let mut plain = [4u64; 1];
         check_eq(told(keeper.read_row::<Words>(&two, 1, &mut plain)), (8, 0))?;
@@ -180,7 +199,10 @@ mod tests {
         check_eq(keeper.read::<Amounts>(&row, 1).ok(), Some(7))?;
         check_eq(told(keeper.exchange(&row, 1, 1)), (6, 2))?;
         check_eq(told(keeper.span(&below(row, 1)?)), (6, 2))?;
-        check_eq(told(keeper.span(&below(below(Trace::new(1)?, -1)?, 1)?)), (5, 2))?;
+        check_eq(
+            told(keeper.span(&below(below(Trace::new(1)?, -1)?, 1)?)),
+            (5, 2),
+        )?;
         check_eq(words[66], 0)?;
         check_eq(words[67], 0x0100_0010_0004_0045)?;
         check_eq(words[68], 67)

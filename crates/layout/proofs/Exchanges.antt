@@ -33,14 +33,14 @@ module _ {X : Type 0} (f : ℕ → X → List Cell) (v : X) where
   by-place P a [] h = tt
   by-place P a (x ∷ xs) h =
       each-++ P (f a x) (cells-along f (a + 1) xs) (subst (λ (n : ℕ). Each P (f n x)) (omega arith) (h 0 (omega arith)))
-        (by-place P (a + 1) xs (λ k l. subst (λ (n : ℕ). Each P (f n (getD xs k v))) (omega arith) (h (suc k) (omega arith))))
+      (by-place P (a + 1) xs (λ k l. subst (λ (n : ℕ). Each P (f n (getD xs k v))) (omega arith) (h (suc k) (omega arith))))
 
   pub at-place : (P : Cell → Type 0) (a : ℕ) (xs : List X) (k : ℕ) → k < length xs → Each P (cells-along f a xs) → Each P (f (a + k) (getD xs k v))
   at-place P a [] k l e = absurd (omega arith)
   at-place P a (x ∷ xs) zero l e = subst (λ (n : ℕ). Each P (f n x)) (omega arith) (each-left P (f a x) (cells-along f (a + 1) xs) e)
   at-place P a (x ∷ xs) (suc k) l e =
       subst (λ (n : ℕ). Each P (f n (getD xs k v))) (omega arith)
-        (at-place P (a + 1) xs k (omega arith) (each-right P (f a x) (cells-along f (a + 1) xs) e))
+      (at-place P (a + 1) xs k (omega arith) (each-right P (f a x) (cells-along f (a + 1) xs) e))
 
   shift : (z a k : ℕ) (x : X) → hits z (f (a + suc k) x) ≡ hits z (f (a + 1 + k) x)
   shift z a k x = ap (λ (n : ℕ). hits z (f n x)) (omega arith)
@@ -53,18 +53,33 @@ module _ {X : Type 0} (f : ℕ → X → List Cell) (v : X) where
       omega (arith, hits-++ z (f a x) (cells-along f (a + 1) xs), one-hit z (a + 1) xs k (omega arith), shift z a k (getD xs k v))
 
   pub two-hits : (z a : ℕ) (xs : List X) (k m : ℕ) → k < length xs → m < length xs → (k ≡ m → ⊥)
-    → hits z (f (a + k) (getD xs k v)) + hits z (f (a + m) (getD xs m v)) ≤ hits z (cells-along f a xs)
+      → hits z (f (a + k) (getD xs k v)) + hits z (f (a + m) (getD xs m v)) ≤ hits z (cells-along f a xs)
   two-hits z a [] k m l l′ d = absurd (omega arith)
   two-hits z a (x ∷ xs) zero zero l l′ d = absurd (d refl)
   two-hits z a (x ∷ xs) zero (suc m) l l′ d =
-      omega (arith, hits-++ z (f a x) (cells-along f (a + 1) xs), ap (λ (n : ℕ). hits z (f n x)) (add-zero a)
-        , one-hit z (a + 1) xs m (omega arith), shift z a m (getD xs m v))
+      omega (
+        arith,
+        hits-++ z (f a x) (cells-along f (a + 1) xs),
+        ap (λ (n : ℕ). hits z (f n x)) (add-zero a),
+        one-hit z (a + 1) xs m (omega arith),
+        shift z a m (getD xs m v),
+      )
   two-hits z a (x ∷ xs) (suc k) zero l l′ d =
-      omega (arith, hits-++ z (f a x) (cells-along f (a + 1) xs), ap (λ (n : ℕ). hits z (f n x)) (add-zero a)
-        , one-hit z (a + 1) xs k (omega arith), shift z a k (getD xs k v))
+      omega (
+        arith,
+        hits-++ z (f a x) (cells-along f (a + 1) xs),
+        ap (λ (n : ℕ). hits z (f n x)) (add-zero a),
+        one-hit z (a + 1) xs k (omega arith),
+        shift z a k (getD xs k v),
+      )
   two-hits z a (x ∷ xs) (suc k) (suc m) l l′ d =
-      omega (arith, hits-++ z (f a x) (cells-along f (a + 1) xs)
-        , two-hits z (a + 1) xs k m (omega arith) (omega arith) (λ e. d (ap suc e)), shift z a k (getD xs k v), shift z a m (getD xs m v))
+      omega (
+        arith,
+        hits-++ z (f a x) (cells-along f (a + 1) xs),
+        two-hits z (a + 1) xs k m (omega arith) (omega arith) (λ e. d (ap suc e)),
+        shift z a k (getD xs k v),
+        shift z a m (getD xs m v),
+      )
 
 -- ── A codeword with its back-reference, and what lies below ────────────
 
@@ -144,8 +159,7 @@ tops-inside count (suc d) a (Codes s b ps) l g = (l, (omega (arith, g .2), tt))
 -- ── The exchange ───────────────────────────────────────────────────────
 
 module _ (ws : List ℕ) (A : Arrangement) (o : Sound A) (s : Displays ws A) (t : Trace) (at d start : ℕ) (b : ℤ) (ps : List (Placed d))
-  (st : Stands ws A t at d (Codes start b ps)) where
-
+    (st : Stands ws A t at d (Codes start b ps)) where
   abbrev along : List Cell
   along = cells-along (cells d) (start + 1) ps
 
@@ -161,7 +175,7 @@ module _ (ws : List ℕ) (A : Arrangement) (o : Sound A) (s : Displays ws A) (t 
   total : (z : ℕ) → hits z (live (A .names)) ≡ hits z (st .before) + (here z at + (here z start + hits z along) + hits z (st .after))
   total z =
       ap (hits z) (st .here) ∙ hits-++ z (st .before) (cells (suc d) at (Codes start b ps) ++ st .after)
-        ∙ ap (λ (k : ℕ). hits z (st .before) + k) (hits-++ z (cells (suc d) at (Codes start b ps)) (st .after))
+      ∙ ap (λ (k : ℕ). hits z (st .before) + k) (hits-++ z (cells (suc d) at (Codes start b ps)) (st .after))
 
   once : (z : ℕ) → hits z (st .before) + (here z at + (here z start + hits z along) + hits z (st .after)) ≤ 1
   once z = subst (λ (k : ℕ). k ≤ 1) (total z) (once-live A o z)
@@ -170,7 +184,7 @@ module _ (ws : List ℕ) (A : Arrangement) (o : Sound A) (s : Displays ws A) (t 
   at-m : (m : ℕ) → m < length ps → Each (Shown ws) (cells d (start + 1 + m) (getD ps m (vacant d)))
   at-m m lm =
       at-place (cells d) (vacant d) (Shown ws) (start + 1) ps m lm
-        (each-left (Shown ws) (cells (suc d) at (Codes start b ps)) (st .after) (each-right (Shown ws) (st .before) _ mine) .1 .1)
+      (each-left (Shown ws) (cells (suc d) at (Codes start b ps)) (st .after) (each-right (Shown ws) (st .before) _ mine) .1 .1)
 
   code-m : (m : ℕ) → m < length ps → getD ws (start + 1 + m) 0 ≡ code d (getD ps m (vacant d))
   code-m m lm = codeword-is ws d (start + 1 + m) (getD ps m (vacant d)) (along-get (Shows d ws) (start + 1) ps (vacant d) m lm (st .shows .2))
@@ -181,24 +195,29 @@ module _ (ws : List ℕ) (A : Arrangement) (o : Sound A) (s : Displays ws A) (t 
   module _ (m n : ℕ) (lm : m < length ps) (ln : n < length ps) where
     abbrev p : Placed d
     p = getD ps m (vacant d)
+
     abbrev q : Placed d
     q = getD ps n (vacant d)
+
     abbrev x : ℕ
     x = start + 1 + m
+
     abbrev y : ℕ
     y = start + 1 + n
+
     abbrev N : List Cell
     N = tops d x q ++ tops d y p
+
     abbrev vs : List ℕ
     vs = written N ws
 
     is-written : relabelled (relabelled ws x (getD ws y 0)) y (getD ws x 0) ≡ vs
     is-written =
         ap (λ (w : ℕ). relabelled (relabelled ws x w) y (getD ws x 0)) (code-m n ln)
-          ∙ ap (λ (us : List ℕ). relabelled us y (getD ws x 0)) (relabel-is ws (length ws) x d q few (good-m n ln))
-          ∙ ap (relabelled (written (tops d x q) ws) y) (code-m m lm)
-          ∙ relabel-is (written (tops d x q) ws) (length ws) y d p few (good-m m lm)
-          ∙ sym (written-++ (tops d x q) (tops d y p) ws)
+        ∙ ap (λ (us : List ℕ). relabelled us y (getD ws x 0)) (relabel-is ws (length ws) x d q few (good-m n ln))
+        ∙ ap (relabelled (written (tops d x q) ws) y) (code-m m lm)
+        ∙ relabel-is (written (tops d x q) ws) (length ws) y d p few (good-m m lm)
+        ∙ sym (written-++ (tops d x q) (tops d y p) ws)
 
     N-hits : (z : ℕ) → hits z N ≡ here z x + starts z d q + (here z y + starts z d p)
     N-hits z = omega (arith, hits-++ z (tops d x q) (tops d y p), tops-hits z d x q, tops-hits z d y p)
@@ -218,9 +237,9 @@ module _ (ws : List ℕ) (A : Arrangement) (o : Sound A) (s : Displays ws A) (t 
       shown-N : Each (Shown vs) N
       shown-N =
           written-shows N ws (λ z. omega (arith, N-hits z, both z))
-            (each-++ (λ c. c .at < length ws) (tops d x q) (tops d y p)
-              (tops-inside (length ws) d x q (omega (arith, st .fits-in .2)) (good-m n ln))
-              (tops-inside (length ws) d y p (omega (arith, st .fits-in .2)) (good-m m lm)))
+          (each-++ (λ c. c .at < length ws) (tops d x q) (tops d y p)
+          (tops-inside (length ws) d x q (omega (arith, st .fits-in .2)) (good-m n ln))
+          (tops-inside (length ws) d y p (omega (arith, st .fits-in .2)) (good-m m lm)))
 
       rest-of : (a : ℕ) (r : Placed d) → Each (Shown ws) (cells d a r) → Each (Shown ws) (rest d r)
       rest-of a r e = each-right (Shown ws) (tops d a r) (rest d r) (subst (Each (Shown ws)) (cells-are d a r) e)
@@ -228,36 +247,36 @@ module _ (ws : List ℕ) (A : Arrangement) (o : Sound A) (s : Displays ws A) (t 
       p-there : Each (Shown vs) (cells d y p)
       p-there =
           subst (Each (Shown vs)) (sym (cells-are d y p))
-            (each-++ (Shown vs) (tops d y p) (rest d p) (each-right (Shown vs) (tops d x q) (tops d y p) shown-N)
-              (each-kept ws vs (rest d p) (λ z h. written-other N ws z (omega (arith, N-hits z, both z))) (rest-of x p (at-m m lm))))
+          (each-++ (Shown vs) (tops d y p) (rest d p) (each-right (Shown vs) (tops d x q) (tops d y p) shown-N)
+          (each-kept ws vs (rest d p) (λ z h. written-other N ws z (omega (arith, N-hits z, both z))) (rest-of x p (at-m m lm))))
 
       q-there : Each (Shown vs) (cells d x q)
       q-there =
           subst (Each (Shown vs)) (sym (cells-are d x q))
-            (each-++ (Shown vs) (tops d x q) (rest d q) (each-left (Shown vs) (tops d x q) (tops d y p) shown-N)
-              (each-kept ws vs (rest d q) (λ z h. written-other N ws z (omega (arith, N-hits z, both z))) (rest-of y q (at-m n ln))))
+          (each-++ (Shown vs) (tops d x q) (rest d q) (each-left (Shown vs) (tops d x q) (tops d y p) shown-N)
+          (each-kept ws vs (rest d q) (λ z h. written-other N ws z (omega (arith, N-hits z, both z))) (rest-of y q (at-m n ln))))
 
       other-there : (k : ℕ) → k < length ps → (k ≡ m → ⊥) → (k ≡ n → ⊥) → Each (Shown vs) (cells d (start + 1 + k) (getD ps k (vacant d)))
       other-there k lk km kn =
           each-kept ws vs _
-            (λ z h. kept z
-              (omega (arith, two-hits (cells d) (vacant d) z (start + 1) ps k m lk lm km, once z))
-              (omega (arith, two-hits (cells d) (vacant d) z (start + 1) ps k n lk ln kn, once z)))
-            (at-m k lk)
+          (λ z h. kept z
+          (omega (arith, two-hits (cells d) (vacant d) z (start + 1) ps k m lk lm km, once z))
+          (omega (arith, two-hits (cells d) (vacant d) z (start + 1) ps k n lk ln kn, once z)))
+          (at-m k lk)
 
       there : (k : ℕ) → k < length ps → Each (Shown vs) (cells d (start + 1 + k) (getD (swap m n (vacant d) ps) k (vacant d)))
       there k lk =
-          elim (cases-eq k n)
-            [ inl e ↦ subst (λ (j : ℕ). Each (Shown vs) (cells d (start + 1 + j) (getD (swap m n (vacant d) ps) j (vacant d)))) (sym e)
+          elim (cases-eq k n) [
+            | inl e ↦ subst (λ (j : ℕ). Each (Shown vs) (cells d (start + 1 + j) (getD (swap m n (vacant d) ps) j (vacant d)))) (sym e)
                 (subst (λ (r : Placed d). Each (Shown vs) (cells d y r)) (sym (getD-set-same (set ps m q) n p (vacant d) (simp length-set ln))) p-there)
-            | inr e ↦ elim (cases-eq k m)
-                [ inl f ↦ subst (λ (j : ℕ). Each (Shown vs) (cells d (start + 1 + j) (getD (swap m n (vacant d) ps) j (vacant d)))) (sym f)
-                    (subst (λ (r : Placed d). Each (Shown vs) (cells d x r))
-                      (sym (getD-set-other (set ps m q) n m p (vacant d) apart ∙ getD-set-same ps m q (vacant d) lm)) q-there)
-                | inr f ↦ subst (λ (r : Placed d). Each (Shown vs) (cells d (start + 1 + k) r))
-                    (sym (getD-set-other (set ps m q) n k p (vacant d) e ∙ getD-set-other ps m k q (vacant d) f)) (other-there k lk f e)
-                ]
+            | inr e ↦ elim (cases-eq k m) [
+              | inl f ↦ subst (λ (j : ℕ). Each (Shown vs) (cells d (start + 1 + j) (getD (swap m n (vacant d) ps) j (vacant d)))) (sym f)
+                  (subst (λ (r : Placed d). Each (Shown vs) (cells d x r))
+                  (sym (getD-set-other (set ps m q) n m p (vacant d) apart ∙ getD-set-same ps m q (vacant d) lm)) q-there)
+              | inr f ↦ subst (λ (r : Placed d). Each (Shown vs) (cells d (start + 1 + k) r))
+                  (sym (getD-set-other (set ps m q) n k p (vacant d) e ∙ getD-set-other ps m k q (vacant d) f)) (other-there k lk f e)
             ]
+          ]
 
       length-is : length (swap m n (vacant d) ps) ≡ length ps
       length-is = simp length-set
@@ -266,43 +285,46 @@ module _ (ws : List ℕ) (A : Arrangement) (o : Sound A) (s : Displays ws A) (t 
       all-there =
           let own = each-right (Shown ws) (st .before) _ mine in
           each-++ (Shown vs) (st .before) _
-            (each-kept ws vs (st .before) (λ z h. kept-out z (omega (arith, once z))) (each-left (Shown ws) (st .before) _ mine))
-            ( kept-out at (omega (arith, once at, here-yes at)) ∙ own .0 ∙ ap (λ (k : ℕ). word (label start k b true 0)) (sym length-is)
-            , ( kept-out start (omega (arith, once start, here-yes start)) ∙ own .1 .0
-              , each-++ (Shown vs) (cells-along (cells d) (start + 1) (swap m n (vacant d) ps)) (st .after)
+          (each-kept ws vs (st .before) (λ z h. kept-out z (omega (arith, once z))) (each-left (Shown ws) (st .before) _ mine)) (
+            kept-out at (omega (arith, once at, here-yes at)) ∙ own .0 ∙ ap (λ (k : ℕ). word (label start k b true 0)) (sym length-is),
+            (
+              kept-out start (omega (arith, once start, here-yes start)) ∙ own .1 .0,
+              each-++ (Shown vs) (cells-along (cells d) (start + 1) (swap m n (vacant d) ps)) (st .after)
                   (by-place (cells d) (vacant d) (Shown vs) (start + 1) (swap m n (vacant d) ps) (λ k l. there k (subst (λ (z : ℕ). k < z) length-is l)))
                   (each-kept ws vs (st .after) (λ z h. kept-out z (omega (arith, once z)))
-                    (each-right (Shown ws) (cells (suc d) at (Codes start b ps)) (st .after) own))))
+                  (each-right (Shown ws) (cells (suc d) at (Codes start b ps)) (st .after) own)),
+            ),
+          )
 
       apart-done : (ns : List (Placed 4)) → live ns ≡ whole (swap m n (vacant d) ps)
-        → Displays (relabelled (relabelled ws x (getD ws y 0)) y (getD ws x 0)) (record { count = A .count; names = ns; gaps = A .gaps })
+          → Displays (relabelled (relabelled ws x (getD ws y 0)) y (getD ws x 0)) (record { count = A .count; names = ns; gaps = A .gaps })
       apart-done ns e =
           subst (λ (us : List ℕ). Displays us (record { count = A .count; names = ns; gaps = A .gaps })) (sym is-written)
-            (redisplayed ws vs A o s (λ z h. kept-out z (omega (arith, total z))) ns (written-length N ws) (subst (Each (Shown vs)) (sym e) all-there))
+          (redisplayed ws vs A o s (λ z h. kept-out z (omega (arith, total z))) ns (written-length N ws) (subst (Each (Shown vs)) (sym e) all-there))
 
   same-done : (m : ℕ) → m < length ps → (ns : List (Placed 4)) → live ns ≡ whole (swap m m (vacant d) ps)
-    → Displays (relabelled (relabelled ws (start + 1 + m) (getD ws (start + 1 + m) 0)) (start + 1 + m) (getD ws (start + 1 + m) 0))
-        (record { count = A .count; names = ns; gaps = A .gaps })
+      → Displays (relabelled (relabelled ws (start + 1 + m) (getD ws (start + 1 + m) 0)) (start + 1 + m) (getD ws (start + 1 + m) 0))
+      (record { count = A .count; names = ns; gaps = A .gaps })
   same-done m lm ns e =
       let r = getD ps m (vacant d) in
       let a = start + 1 + m in
       let top : Each (Shown ws) (tops d a r) = each-left (Shown ws) (tops d a r) (rest d r) (subst (Each (Shown ws)) (cells-are d a r) (at-m m lm)) in
       let still : relabelled (relabelled ws a (getD ws a 0)) a (getD ws a 0) ≡ ws =
-            is-written m m lm lm ∙ written-same (tops d a r ++ tops d a r) ws (each-++ (Shown ws) (tops d a r) (tops d a r) top top) in
+      is-written m m lm lm ∙ written-same (tops d a r ++ tops d a r) ws (each-++ (Shown ws) (tops d a r) (tops d a r) top top) in
       let back-again : swap m m (vacant d) ps ≡ ps =
-            ap (λ (us : List (Placed d)). set us m r) (set-getD ps m (vacant d)) ∙ set-getD ps m (vacant d) in
+      ap (λ (us : List (Placed d)). set us m r) (set-getD ps m (vacant d)) ∙ set-getD ps m (vacant d) in
       subst (λ (us : List ℕ). Displays us (record { count = A .count; names = ns; gaps = A .gaps })) (sym still)
-        (redisplayed ws ws A o s (λ z h. refl) ns refl (subst (Each (Shown ws)) (sym (e ∙ ap whole back-again)) mine))
+      (redisplayed ws ws A o s (λ z h. refl) ns refl (subst (Each (Shown ws)) (sym (e ∙ ap whole back-again)) mine))
 
   pub exchange-shown : (m n : ℕ) → m < length ps → n < length ps → (ns : List (Placed 4)) → live ns ≡ whole (swap m n (vacant d) ps)
-    → Displays (relabelled (relabelled ws (start + 1 + m) (getD ws (start + 1 + n) 0)) (start + 1 + n) (getD ws (start + 1 + m) 0))
-        (record { count = A .count; names = ns; gaps = A .gaps })
+      → Displays (relabelled (relabelled ws (start + 1 + m) (getD ws (start + 1 + n) 0)) (start + 1 + n) (getD ws (start + 1 + m) 0))
+      (record { count = A .count; names = ns; gaps = A .gaps })
   exchange-shown m n lm ln ns e =
-      elim (cases-eq m n)
-        [ inl q ↦ subst
+      elim (cases-eq m n) [
+        | inl q ↦ subst
             (λ (k : ℕ). live ns ≡ whole (swap m k (vacant d) ps)
-              → Displays (relabelled (relabelled ws (start + 1 + m) (getD ws (start + 1 + k) 0)) (start + 1 + k) (getD ws (start + 1 + m) 0))
-                  (record { count = A .count; names = ns; gaps = A .gaps }))
+            → Displays (relabelled (relabelled ws (start + 1 + m) (getD ws (start + 1 + k) 0)) (start + 1 + k) (getD ws (start + 1 + m) 0))
+            (record { count = A .count; names = ns; gaps = A .gaps }))
             q (same-done m lm ns) e
         | inr q ↦ apart-done m n lm ln q ns e
-        ]
+      ]

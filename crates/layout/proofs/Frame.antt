@@ -75,9 +75,10 @@ module _ (ws vs : List ℕ) (A : Arrangement) (o : Sound A) (s : Displays ws A)
       let all = to-shown ws A s in
       let once : (y : ℕ) → here y 0 + (hits y gs + hits y (live (A .names))) + inner y (A .gaps) ≤ 1 =
       λ y. omega (arith, one-word-each A o y, hits-++ y gs (live (A .names))) in
-      displays vs (record { count = A .count; names = ns; gaps = A .gaps }) (n ∙ s .count)
-      (kept 0 (omega (arith, once 0, here-yes 0)) ∙ s .header,
-      each-++ (Shown vs) gs (live ns) (front-kept gs (λ y. omega (arith, once y)) (each-left (Shown ws) gs (live (A .names)) (all .1))) e)
+      displays vs (record { count = A .count; names = ns; gaps = A .gaps }) (n ∙ s .count) (
+        kept 0 (omega (arith, once 0, here-yes 0)) ∙ s .header,
+        each-++ (Shown vs) gs (live ns) (front-kept gs (λ y. omega (arith, once y)) (each-left (Shown ws) gs (live (A .names)) (all .1))) e,
+      )
       (λ y k. kept y (omega (arith, once y)) ∙ inner-zero ws (A .gaps) (s .chain) y k)
 
 -- ── One word, one cell ─────────────────────────────────────────────────

@@ -238,7 +238,7 @@ link-total p (g ∷ gs) =
     let more = link-total p gs in
     link-cases (λ ps. total ps ≡ p .size + total (g ∷ gs)) p g gs (λ l. refl) (λ l. omega (arith, more))
 
-all-covered : (y : ℕ) (ps gs : List Piece) → covered y (link-all ps gs) ≡ covered y ps + covered y gs
+pub all-covered : (y : ℕ) (ps gs : List Piece) → covered y (link-all ps gs) ≡ covered y ps + covered y gs
 all-covered y [] gs = omega arith
 all-covered y (p ∷ ps) gs = omega (arith, link-covered y p (link-all ps gs), all-covered y ps gs)
 

@@ -87,18 +87,20 @@ module _ (ws : List ℕ) (h : Holds ws) (t : Trace) (at w : ℕ) (e : Ok at ≡ 
     rebase-good z q c u (depth, Vacant, st) = absurd (z (is ∙ st .shows))
     rebase-good z q c u (depth, Data x b y vs, st) =
         let g = st .fits-in in
-        let m = shown-label ws few (getD ws at 0) x (length vs) b false y (g .0) (g .2) (g .3) (g .4) (st .shows .0) in
-        ( st .asked (Rebase base) ∙ ap (reply _) (door-open _ _ _ q) ∙ granted-now _ _
-        , subst (λ (k : Codeword). Displays (set ws at (packed (another k))) (rearranged t (Rebase base) (h .arrangement))) (m .0 ∙ ap unpacked (sym is) ∙ sym u)
-            (wrote ws (h .arrangement) (h .sound) (h .shown) _ (st .before) (cell x (back at) ∷ (cells-along datum-at (x + 1) vs ++ st .after)) at
-              (label x (length vs) b false y) (label x (length vs) base false y) (st .inside) (st .here) (st .there (rebased base))))
+        let m = shown-label ws few (getD ws at 0) x (length vs) b false y (g .0) (g .2) (g .3) (g .4) (st .shows .0) in (
+          st .asked (Rebase base) ∙ ap (reply _) (door-open _ _ _ q) ∙ granted-now _ _,
+          subst (λ (k : Codeword). Displays (set ws at (packed (another k))) (rearranged t (Rebase base) (h .arrangement))) (m .0 ∙ ap unpacked (sym is) ∙ sym u)
+              (wrote ws (h .arrangement) (h .sound) (h .shown) _ (st .before) (cell x (back at) ∷ (cells-along datum-at (x + 1) vs ++ st .after)) at
+              (label x (length vs) b false y) (label x (length vs) base false y) (st .inside) (st .here) (st .there (rebased base))),
+        )
     rebase-good z q c u (depth, Codes x b ps, st) =
         let g = st .fits-in in
-        let m = shown-label ws few (getD ws at 0) x (length ps) b true 0 (g .0) (g .2) (g .3) (omega arith) (st .shows .0) in
-        ( st .asked (Rebase base) ∙ ap (reply _) (door-open _ _ _ q) ∙ granted-now _ _
-        , subst (λ (k : Codeword). Displays (set ws at (packed (another k))) (rearranged t (Rebase base) (h .arrangement))) (m .0 ∙ ap unpacked (sym is) ∙ sym u)
-            (wrote ws (h .arrangement) (h .sound) (h .shown) _ (st .before) (cell x (back at) ∷ (cells-along (cells depth) (x + 1) ps ++ st .after)) at
-              (label x (length ps) b true 0) (label x (length ps) base true 0) (st .inside) (st .here) (st .there (rebased base))))
+        let m = shown-label ws few (getD ws at 0) x (length ps) b true 0 (g .0) (g .2) (g .3) (omega arith) (st .shows .0) in (
+          st .asked (Rebase base) ∙ ap (reply _) (door-open _ _ _ q) ∙ granted-now _ _,
+          subst (λ (k : Codeword). Displays (set ws at (packed (another k))) (rearranged t (Rebase base) (h .arrangement))) (m .0 ∙ ap unpacked (sym is) ∙ sym u)
+              (wrote ws (h .arrangement) (h .sound) (h .shown) _ (st .before) (cell x (back at) ∷ (cells-along (cells depth) (x + 1) ps ++ st .after)) at
+              (label x (length ps) b true 0) (label x (length ps) base true 0) (st .inside) (st .here) (st .there (rebased base))),
+        )
 
     pub rebase-unlabelled : (j : ℕ) → j ≡ t .depth + 1 → w ≡ 0 → Booked ws (on t (Rebase base)) (refused (Unlabelled j)) ws
     rebase-unlabelled j deep z =

@@ -37,3 +37,9 @@ pub mod Relink
 pub mod Scan
 pub mod End
 pub mod Rooms
+pub mod Linking
+pub mod Emptied
+pub mod Releasing
+pub mod Releases
+pub mod Freed
+pub mod Frees

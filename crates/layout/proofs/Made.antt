@@ -37,9 +37,11 @@ one-gap n m e lo =
     let l : length r ≡ n = length-replicate n 0 in
     let header : ℕ = n - 65 + 2 ^ 18 * 65 in (
       getD-set-other (set r 0 header) 65 0 (n - 65) 0 (λ z. omega arith) ∙ getD-set-same r 0 header 0 (omega arith) ∙ omega arith,
-      (getD-set-same (set r 0 header) 65 (n - 65) 0 (omega (arith, length-set r 0 header)) ∙ omega arith,
-      λ k low high. elsewhere n (65 + k) (λ z. omega arith) (λ z. omega arith),
-      tt),
+      (
+        getD-set-same (set r 0 header) 65 (n - 65) 0 (omega (arith, length-set r 0 header)) ∙ omega arith,
+        λ k low high. elsewhere n (65 + k) (λ z. omega arith) (λ z. omega arith),
+        tt,
+      ),
     )
 
 blank-shows : (n : ℕ) → 67 ≤ n → Displays (blank n) (as-made n)

@@ -33,19 +33,19 @@ written-++ (x ∷ xs) ys ws = written-++ xs ys (set ws (x .at) (word (x .says)))
 
 -- some cells give way to others at the same addresses, which are written
 pub rewrote : (ws : List ℕ) (A : Arrangement) → Sound A → Displays ws A → (ns : List (Placed 4)) (xs O D zs : List Cell)
-  → ((z : ℕ) → hits z D ≡ hits z O) → Each (λ c. c .at < length ws) D
-  → live (A .names) ≡ xs ++ (O ++ zs) → live ns ≡ xs ++ (D ++ zs)
-  → Displays (written D ws) (record { count = A .count; names = ns; gaps = A .gaps })
+    → ((z : ℕ) → hits z D ≡ hits z O) → Each (λ c. c .at < length ws) D
+    → live (A .names) ≡ xs ++ (O ++ zs) → live ns ≡ xs ++ (D ++ zs)
+    → Displays (written D ws) (record { count = A .count; names = ns; gaps = A .gaps })
 rewrote ws A o s ns xs O D zs same inside e e′ =
     let vs = written D ws in
     let all : Each (Shown ws) (xs ++ (O ++ zs)) = subst (Each (Shown ws)) e (live-shown ws A s) in
     let sum : (z : ℕ) → hits z (live (A .names)) ≡ hits z xs + (hits z O + hits z zs) =
-          λ z. ap (hits z) e ∙ hits-++ z xs (O ++ zs) ∙ ap (λ (k : ℕ). hits z xs + k) (hits-++ z O zs) in
+    λ z. ap (hits z) e ∙ hits-++ z xs (O ++ zs) ∙ ap (λ (k : ℕ). hits z xs + k) (hits-++ z O zs) in
     let once : (z : ℕ) → hits z xs + (hits z D + hits z zs) ≤ 1 = λ z. omega (arith, once-live A o z, sum z, same z) in
     redisplayed ws vs A o s (λ z h. written-other D ws z (omega (arith, sum z, same z))) ns (written-length D ws)
-      (subst (Each (Shown vs)) (sym e′)
-        (each-++ (Shown vs) xs (D ++ zs)
-          (each-kept ws vs xs (λ z h. written-other D ws z (omega (arith, once z))) (each-left (Shown ws) xs (O ++ zs) all))
-          (each-++ (Shown vs) D zs
-            (written-shows D ws (λ z. omega (arith, once z)) inside)
-            (each-kept ws vs zs (λ z h. written-other D ws z (omega (arith, once z))) (each-right (Shown ws) O zs (each-right (Shown ws) xs (O ++ zs) all))))))
+    (subst (Each (Shown vs)) (sym e′)
+    (each-++ (Shown vs) xs (D ++ zs)
+    (each-kept ws vs xs (λ z h. written-other D ws z (omega (arith, once z))) (each-left (Shown ws) xs (O ++ zs) all))
+    (each-++ (Shown vs) D zs
+    (written-shows D ws (λ z. omega (arith, once z)) inside)
+    (each-kept ws vs zs (λ z h. written-other D ws z (omega (arith, once z))) (each-right (Shown ws) O zs (each-right (Shown ws) xs (O ++ zs) all))))))

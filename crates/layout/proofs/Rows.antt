@@ -114,32 +114,33 @@ module _ (ws : List ℕ) (A : Arrangement) (t : Trace) (kind : ℕ) (i : ℤ) (s
   selects (Err r) h = λ a w. h a
   selects (Ok at) (depth, Vacant, st) =
       subst (Selects ws A t kind i) (sym (row-nothing (getD ws at 0) kind i _ (st .shows)))
-        (λ a w. st .asked a ∙ ap (reply _) (rowly-nothing _ _ kind i _ w))
+      (λ a w. st .asked a ∙ ap (reply _) (rowly-nothing _ _ kind i _ w))
   selects (Ok at) (depth, Codes s b ps, st) =
       let g = st .fits-in in
       let m = shown-label ws small (getD ws at 0) s (length ps) b true 0 (g .0) (g .2) (g .3) (omega arith) (st .shows .0) in
       subst (Selects ws A t kind i) (sym (row-table (getD ws at 0) kind i _ _ (m .0) (m .1) refl))
-        (λ a w. st .asked a ∙ ap (reply _) (rowly-table _ _ kind i _ b _ w))
+      (λ a w. st .asked a ∙ ap (reply _) (rowly-table _ _ kind i _ b _ w))
   selects (Ok at) (depth, Data s b ty vs, st) = pick (off b (length vs) i) refl (eqb ty kind) refl
     where
       is : (z : Result ℕ Refusal) → chosen (labelling (s + 1) (length vs) b false ty) i (1 + length (subscripts t)) ≡ z
-        → row-chosen (getD ws at 0) kind i (1 + length (subscripts t)) ≡ and-then z (λ k. cond (eqb ty kind) (Ok (s + 1 + k, length vs - k)) (Err WrongType))
+          → row-chosen (getD ws at 0) kind i (1 + length (subscripts t)) ≡ and-then z (λ k. cond (eqb ty kind) (Ok (s + 1 + k, length vs - k)) (Err WrongType))
       is z e =
           let g = st .fits-in in
           let m = shown-label ws small (getD ws at 0) s (length vs) b false ty (g .0) (g .2) (g .3) (g .4) (st .shows .0) in
           row-row (getD ws at 0) kind i _ _ (m .0) (m .1) refl
-            ∙ ap (λ (o : Result ℕ Refusal). and-then o (λ k. cond (eqb ty kind) (Ok (s + 1 + k, length vs - k)) (Err WrongType))) e
+          ∙ ap (λ (o : Result ℕ Refusal). and-then o (λ k. cond (eqb ty kind) (Ok (s + 1 + k, length vs - k)) (Err WrongType))) e
+
       pick : (p : Bool) → off b (length vs) i ≡ p → (q : Bool) → eqb ty kind ≡ q
-        → Selects ws A t kind i (row-chosen (getD ws at 0) kind i (1 + length (subscripts t)))
+          → Selects ws A t kind i (row-chosen (getD ws at 0) kind i (1 + length (subscripts t)))
       pick true e q e′ =
           subst (Selects ws A t kind i) (sym (is (Err (OutOfBounds _)) (cond-true _ _ _ e)))
-            (λ a w. st .asked a ∙ ap (reply _) (rowly-off _ _ kind i _ b ty vs e w))
+          (λ a w. st .asked a ∙ ap (reply _) (rowly-off _ _ kind i _ b ty vs e w))
       pick false e false e′ =
           subst (Selects ws A t kind i) (sym (is (Ok (element b i)) (cond-false _ _ _ e) ∙ cond-false _ _ _ e′))
-            (λ a w. st .asked a ∙ ap (reply _) (rowly-type _ _ kind i _ b ty vs e e′ w))
+          (λ a w. st .asked a ∙ ap (reply _) (rowly-type _ _ kind i _ b ty vs e e′ w))
       pick false e true e′ =
           subst (Selects ws A t kind i) (sym (is (Ok (element b i)) (cond-false _ _ _ e) ∙ cond-true _ _ _ e′))
-            (record { at = at; depth = depth; start = s; base = b; type = ty; words = vs; stands = st; on = e; typed = e′; is-at = refl; is-left = refl })
+          (record { at = at; depth = depth; start = s; base = b; type = ty; words = vs; stands = st; on = e; typed = e′; is-at = refl; is-left = refl })
 
   module _ (y left : ℕ) (x : Selected ws A t kind i y left) where
     abbrev k : ℕ
@@ -151,13 +152,13 @@ module _ (ws : List ℕ) (A : Arrangement) (t : Trace) (kind : ℕ) (i : ℤ) (s
     pub word-there : getD ws y 0 ≡ getD (x .words) (element (x .base) i) 0
     word-there =
         ap (λ (z : ℕ). getD ws z 0) (x .is-at)
-          ∙ along-get (λ z v. getD ws z 0 ≡ v) (x .start + 1) (x .words) 0 (element (x .base) i) element-inside (x .stands .shows .2)
+        ∙ along-get (λ z v. getD ws z 0 ≡ v) (x .start + 1) (x .words) 0 (element (x .base) i) element-inside (x .stands .shows .2)
 
     -- past the doors of subscript and type
     pub read-granted : booked A t (Read kind i) ≡ granted (Word (getD ws y 0))
     read-granted =
         x .stands .asked (Read kind i) ∙ ap (reply k) (door-open _ _ _ (x .on) ∙ door-open _ _ _ (ap not (x .typed))) ∙ granted-now _ _
-          ∙ ap (λ (w : ℕ). granted (Word w)) (sym word-there)
+        ∙ ap (λ (w : ℕ). granted (Word w)) (sym word-there)
 
     pub write-granted : (w : ℕ) → booked A t (Write kind i w) ≡ granted Done
     write-granted w =
@@ -169,16 +170,16 @@ module _ (ws : List ℕ) (A : Arrangement) (t : Trace) (kind : ℕ) (i : ℤ) (s
         let st = x .stands in
         let r = spread-at datum-at (x .start + 1) e (x .words) element-inside in
         let head : ℕ → List Cell → List Cell =
-              λ n cs. cell (x .at) (label (x .start) n (x .base) false (x .type)) ∷ cell (x .start) (back (x .at)) ∷ cs in
+        λ n cs. cell (x .at) (label (x .start) n (x .base) false (x .type)) ∷ cell (x .start) (back (x .at)) ∷ cs in
         let way : (v : ℕ) → st .before ++ (head (length (set (x .words) e v)) (cells-along datum-at (x .start + 1) (set (x .words) e v)) ++ st .after)
-              ≡ (st .before ++ head (length (x .words)) (r .pre)) ++ (cell (x .start + 1 + e) (datum v) ∷ (r .post ++ st .after)) =
-              λ v. ap (λ (n : ℕ). st .before ++ (head n (cells-along datum-at (x .start + 1) (set (x .words) e v)) ++ st .after)) (length-set (x .words) e v)
-                ∙ ap (λ (cs : List Cell). st .before ++ (head (length (x .words)) cs ++ st .after)) (r .spread v)
-                ∙ simp append-assoc in
+        ≡ (st .before ++ head (length (x .words)) (r .pre)) ++ (cell (x .start + 1 + e) (datum v) ∷ (r .post ++ st .after)) =
+        λ v. ap (λ (n : ℕ). st .before ++ (head n (cells-along datum-at (x .start + 1) (set (x .words) e v)) ++ st .after)) (length-set (x .words) e v)
+        ∙ ap (λ (cs : List Cell). st .before ++ (head (length (x .words)) cs ++ st .after)) (r .spread v)
+        ∙ simp append-assoc in
         subst (λ (z : ℕ). Displays (set ws z w) (rearranged t (Write kind i w) A)) (sym (x .is-at))
-          (wrote ws A o s _ _ _ (x .start + 1 + e) (datum (getD (x .words) e 0)) (datum w) (omega (arith, st .fits-in .2, element-inside))
-            (st .here ∙ ap (λ (vs : List ℕ). st .before ++ (cells (suc (x .depth)) (x .at) (Data (x .start) (x .base) (x .type) vs) ++ st .after)) (sym (set-getD (x .words) e 0)) ∙ way (getD (x .words) e 0))
-            (st .there (data-change (λ b ws. set ws (element b i) w)) ∙ way w))
+        (wrote ws A o s _ _ _ (x .start + 1 + e) (datum (getD (x .words) e 0)) (datum w) (omega (arith, st .fits-in .2, element-inside))
+        (st .here ∙ ap (λ (vs : List ℕ). st .before ++ (cells (suc (x .depth)) (x .at) (Data (x .start) (x .base) (x .type) vs) ++ st .after)) (sym (set-getD (x .words) e 0)) ∙ way (getD (x .words) e 0))
+        (st .there (data-change (λ b ws. set ws (element b i) w)) ∙ way w))
 
 -- ── Over words that hold together ──────────────────────────────────────
 
@@ -191,9 +192,9 @@ module _ (ws : List ℕ) (h : Holds ws) (t : Trace) (kind : ℕ) (i : ℤ) where
   unfolding row-found
   picked z q r e =
       subst (Selects ws (h .arrangement) t kind i) (ap (row-found ws t kind) (sym q) ∙ sym e)
-        (subst (λ (j : ℕ). Selects ws (h .arrangement) t kind i (and-then (walked ws 1 (t .name) (subscripts t)) (λ a. row-chosen (getD ws a 0) kind i j)))
-          (omega (arith, subscripts-count t))
-          (selects ws (h .arrangement) t kind i few-words (walked ws 1 (t .name) (subscripts t)) (came ws h t (walked ws 1 (t .name) (subscripts t)) refl)))
+      (subst (λ (j : ℕ). Selects ws (h .arrangement) t kind i (and-then (walked ws 1 (t .name) (subscripts t)) (λ a. row-chosen (getD ws a 0) kind i j)))
+      (omega (arith, subscripts-count t))
+      (selects ws (h .arrangement) t kind i few-words (walked ws 1 (t .name) (subscripts t)) (came ws h t (walked ws 1 (t .name) (subscripts t)) refl)))
 
   module _ (z : ℤ) (q : z ≡ i) where
     pub row-refused : (r : Refusal) → Err r ≡ row-found ws t kind z → (a : Deed) → Rowly kind i a → Booked ws (on t a) (refused r) ws
@@ -210,8 +211,8 @@ module _ (ws : List ℕ) (h : Holds ws) (t : Trace) (kind : ℕ) (i : ℤ) where
     write-done y left w us e is =
         let x = picked z q (Ok (y, left)) e in
         granted-owes ws h t (Write kind i w) Done us (write-granted ws (h .arrangement) t kind i few-words y left x w)
-          (subst (λ (us : List ℕ). Displays us (rearranged t (Write kind i w) (h .arrangement))) (sym is)
-            (written ws (h .arrangement) t kind i few-words y left x (h .sound) (h .shown) w))
+        (subst (λ (us : List ℕ). Displays us (rearranged t (Write kind i w) (h .arrangement))) (sym is)
+        (written ws (h .arrangement) t kind i few-words y left x (h .sound) (h .shown) w))
 
 -- the code finds it in two steps, the second at a depth that it has asked for
 pub row-through : (ws : List ℕ) (t : Trace) (kind : ℕ) (i z : ℤ) → z ≡ i → (a w d : ℕ) (r : Result (ℕ × ℕ) Refusal) → Ok a ≡ walked ws 1 (t .name) (subscripts t)

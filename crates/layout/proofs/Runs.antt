@@ -62,13 +62,13 @@ data-inside count a (x ∷ xs) h = (omega arith, data-inside count (a + 1) xs (o
 
 -- the loop's step
 pub one-more : (ws us vs : List ℕ) (a k : ℕ) → k < length vs → us ≡ written (data-cells a (take k vs)) ws
-  → set us (a + k) (getD vs k 0) ≡ written (data-cells a (take (k + 1) vs)) ws
+    → set us (a + k) (getD vs k 0) ≡ written (data-cells a (take (k + 1) vs)) ws
 one-more ws us vs a k h e =
     ap (λ (z : List ℕ). set z (a + k) (getD vs k 0)) e
-      ∙ ap (λ (n : ℕ). set (written (data-cells a (take k vs)) ws) n (getD vs k 0)) (omega (arith, length-take k vs))
-      ∙ sym (ap (λ (xs : List ℕ). written (data-cells a xs) ws) (take-more vs k 0 h)
-          ∙ ap (λ (cs : List Cell). written cs ws) (data-++ a (take k vs) (getD vs k 0 ∷ []))
-          ∙ written-++ (data-cells a (take k vs)) (data-cells (a + length (take k vs)) (getD vs k 0 ∷ [])) ws)
+    ∙ ap (λ (n : ℕ). set (written (data-cells a (take k vs)) ws) n (getD vs k 0)) (omega (arith, length-take k vs))
+    ∙ sym (ap (λ (xs : List ℕ). written (data-cells a xs) ws) (take-more vs k 0 h)
+    ∙ ap (λ (cs : List Cell). written cs ws) (data-++ a (take k vs) (getD vs k 0 ∷ []))
+    ∙ written-++ (data-cells a (take k vs)) (data-cells (a + length (take k vs)) (getD vs k 0 ∷ [])) ws)
 
 module _ (ws : List ℕ) (A : Arrangement) (t : Trace) (kind : ℕ) (i : ℤ) (small : length ws ≤ 2 ^ 18) (y left : ℕ) (x : Selected ws A t kind i y left) (vs : List ℕ) where
   abbrev e : ℕ
@@ -77,7 +77,7 @@ module _ (ws : List ℕ) (A : Arrangement) (t : Trace) (kind : ℕ) (i : ℤ) (s
   run-refused : (length vs ≡ 0) ⊎ (left < length vs) → booked A t (Row-write kind i vs) ≡ refused BadLength
   run-refused w =
       x .stands .asked (Row-write kind i vs)
-        ∙ ap (reply _) (door-open _ _ _ (x .on) ∙ door-open _ _ _ (ap not (x .typed)) ∙ door-shut _ _ _ (bad w))
+      ∙ ap (reply _) (door-open _ _ _ (x .on) ∙ door-open _ _ _ (ap not (x .typed)) ∙ door-shut _ _ _ (bad w))
     where
       bad : (length vs ≡ 0) ⊎ (left < length vs) → bad-run (element (x .base) i) (length vs) (length (x .words)) ≡ true
       bad (inl h) = or-left _ _ (eq-eqb (length vs) 0 h)
@@ -86,10 +86,10 @@ module _ (ws : List ℕ) (A : Arrangement) (t : Trace) (kind : ℕ) (i : ℤ) (s
   run-granted : (length vs ≡ 0 → ⊥) → length vs ≤ left → booked A t (Row-write kind i vs) ≡ granted Done
   run-granted h l =
       x .stands .asked (Row-write kind i vs)
-        ∙ ap (reply _) (door-open _ _ _ (x .on) ∙ door-open _ _ _ (ap not (x .typed))
-            ∙ door-open _ _ _ (or-from _ _ (ne-eqb (length vs) 0 h)
-                (le-ltb (length (x .words)) (e + length vs) (omega (arith, x .is-left, element-inside ws A t kind i small y left x)))))
-        ∙ granted-now _ _
+      ∙ ap (reply _) (door-open _ _ _ (x .on) ∙ door-open _ _ _ (ap not (x .typed))
+      ∙ door-open _ _ _ (or-from _ _ (ne-eqb (length vs) 0 h)
+      (le-ltb (length (x .words)) (e + length vs) (omega (arith, x .is-left, element-inside ws A t kind i small y left x)))))
+      ∙ granted-now _ _
 
   run-written : Sound A → Displays ws A → length vs ≤ left → Displays (written (data-cells y vs) ws) (rearranged t (Row-write kind i vs) A)
   run-written o s l =
@@ -104,57 +104,57 @@ module _ (ws : List ℕ) (A : Arrangement) (t : Trace) (kind : ℕ) (i : ℤ) (s
       let head : ℕ → List Cell = λ k. cell (x .at) (label (x .start) k (x .base) false (x .type)) ∷ cell (x .start) (back (x .at)) ∷ [] in
       let first = x .start + 1 in
       let way : (ms : List ℕ) → length ms ≡ n → st .before ++ (cells (suc (x .depth)) (x .at) (Data (x .start) (x .base) (x .type) (take e us ++ (ms ++ drop (e + n) us))) ++ st .after)
-            ≡ (st .before ++ (head (length us) ++ data-cells first (take e us))) ++ (data-cells y ms ++ (data-cells (y + n) (drop (e + n) us) ++ st .after)) =
-            λ ms q.
-              ap (λ (k : ℕ). st .before ++ ((head k ++ data-cells first (take e us ++ (ms ++ drop (e + n) us))) ++ st .after))
-                  (simp (length-append, length-drop) (omega (arith, pre-n, q)))
-                ∙ ap (λ (cs : List Cell). st .before ++ ((head (length us) ++ cs) ++ st .after))
-                    (data-++ first (take e us) (ms ++ drop (e + n) us)
-                      ∙ ap (λ (k : ℕ). data-cells first (take e us) ++ data-cells k (ms ++ drop (e + n) us)) (ap (λ (k : ℕ). first + k) pre-n ∙ sym (x .is-at))
-                      ∙ ap (λ (cs : List Cell). data-cells first (take e us) ++ cs)
-                          (data-++ y ms (drop (e + n) us) ∙ ap (λ (k : ℕ). data-cells y ms ++ data-cells (y + k) (drop (e + n) us)) q))
-                ∙ simp append-assoc in
+      ≡ (st .before ++ (head (length us) ++ data-cells first (take e us))) ++ (data-cells y ms ++ (data-cells (y + n) (drop (e + n) us) ++ st .after)) =
+      λ ms q.
+      ap (λ (k : ℕ). st .before ++ ((head k ++ data-cells first (take e us ++ (ms ++ drop (e + n) us))) ++ st .after))
+      (simp (length-append, length-drop) (omega (arith, pre-n, q)))
+      ∙ ap (λ (cs : List Cell). st .before ++ ((head (length us) ++ cs) ++ st .after))
+      (data-++ first (take e us) (ms ++ drop (e + n) us)
+      ∙ ap (λ (k : ℕ). data-cells first (take e us) ++ data-cells k (ms ++ drop (e + n) us)) (ap (λ (k : ℕ). first + k) pre-n ∙ sym (x .is-at))
+      ∙ ap (λ (cs : List Cell). data-cells first (take e us) ++ cs)
+      (data-++ y ms (drop (e + n) us) ∙ ap (λ (k : ℕ). data-cells y ms ++ data-cells (y + k) (drop (e + n) us)) q))
+      ∙ simp append-assoc in
       let parts : us ≡ take e us ++ (old ++ drop (e + n) us) =
-            sym (take-append-drop e us) ∙ ap (λ (z : List ℕ). take e us ++ z) (sym (take-append-drop n (drop e us)) ∙ ap (λ (z : List ℕ). old ++ z) (drop-drop n e us)) in
+      sym (take-append-drop e us) ∙ ap (λ (z : List ℕ). take e us ++ z) (sym (take-append-drop n (drop e us)) ∙ ap (λ (z : List ℕ). old ++ z) (drop-drop n e us)) in
       rewrote ws A o s _ (st .before ++ (head (length us) ++ data-cells first (take e us))) (data-cells y old) (data-cells y vs)
-        (data-cells (y + n) (drop (e + n) us) ++ st .after)
-        (λ z. data-hits z y vs old (sym old-n))
-        (data-inside (length ws) y vs (omega (arith, st .fits-in .2, x .is-at)))
-        (st .here ∙ ap (λ (zs : List ℕ). st .before ++ (cells (suc (x .depth)) (x .at) (Data (x .start) (x .base) (x .type) zs) ++ st .after)) parts ∙ way old old-n)
-        (st .there (data-change (λ b ws. overwrite (element b i) vs ws)) ∙ way vs refl)
+      (data-cells (y + n) (drop (e + n) us) ++ st .after)
+      (λ z. data-hits z y vs old (sym old-n))
+      (data-inside (length ws) y vs (omega (arith, st .fits-in .2, x .is-at)))
+      (st .here ∙ ap (λ (zs : List ℕ). st .before ++ (cells (suc (x .depth)) (x .at) (Data (x .start) (x .base) (x .type) zs) ++ st .after)) parts ∙ way old old-n)
+      (st .there (data-change (λ b ws. overwrite (element b i) vs ws)) ∙ way vs refl)
 
 module _ (ws : List ℕ) (A : Arrangement) (t : Trace) (kind : ℕ) (i : ℤ) (small : length ws ≤ 2 ^ 18) (y left : ℕ) (x : Selected ws A t kind i y left) (n : ℕ) where
   rows-refused : (n ≡ 0) ⊎ (left < n) → booked A t (Row-read kind i n) ≡ refused BadLength
   rows-refused w =
       x .stands .asked (Row-read kind i n)
-        ∙ ap (reply _) (door-open _ _ _ (x .on) ∙ door-open _ _ _ (ap not (x .typed)) ∙ door-shut _ _ _ (bad w))
+      ∙ ap (reply _) (door-open _ _ _ (x .on) ∙ door-open _ _ _ (ap not (x .typed)) ∙ door-shut _ _ _ (bad w))
     where
       bad : (n ≡ 0) ⊎ (left < n) → bad-run (element (x .base) i) n (length (x .words)) ≡ true
       bad (inl h) = or-left _ _ (eq-eqb n 0 h)
       bad (inr h) = or-right _ _ (lt-ltb (length (x .words)) (element (x .base) i + n) (omega (arith, x .is-left, element-inside ws A t kind i small y left x)))
 
   rows-granted : (n ≡ 0 → ⊥) → n ≤ left → (us : List ℕ) → length us ≡ n → ((k : ℕ) → k < n → getD us k 0 ≡ getD ws (y + k) 0)
-    → booked A t (Row-read kind i n) ≡ granted (Words us)
+      → booked A t (Row-read kind i n) ≡ granted (Words us)
   rows-granted h l us m each =
       let e = element (x .base) i in
       let lt = element-inside ws A t kind i small y left x in
       x .stands .asked (Row-read kind i n)
-        ∙ ap (reply _) (door-open _ _ _ (x .on) ∙ door-open _ _ _ (ap not (x .typed))
-            ∙ door-open _ _ _ (or-from _ _ (ne-eqb n 0 h) (le-ltb (length (x .words)) (e + n) (omega (arith, x .is-left)))))
-        ∙ granted-now _ _
-        ∙ ap (λ (vs : List ℕ). granted (Words vs))
-            (ext-getD 0 (take n (drop e (x .words))) us (simp (length-take, length-drop) (omega (arith, x .is-left)))
-              (λ k hk.
-                let small-k : k < n = omega (arith, hk, length-take n (drop e (x .words))) in
-                getD-take n (drop e (x .words)) k 0 small-k ∙ getD-drop e (x .words) k 0
-                  ∙ sym (each k small-k
-                      ∙ ap (λ (z : ℕ). getD ws z 0) (omega (arith, x .is-at))
-                      ∙ along-get (λ z v. getD ws z 0 ≡ v) (x .start + 1) (x .words) 0 (e + k) (omega (arith, x .is-left)) (x .stands .shows .2))))
+      ∙ ap (reply _) (door-open _ _ _ (x .on) ∙ door-open _ _ _ (ap not (x .typed))
+      ∙ door-open _ _ _ (or-from _ _ (ne-eqb n 0 h) (le-ltb (length (x .words)) (e + n) (omega (arith, x .is-left)))))
+      ∙ granted-now _ _
+      ∙ ap (λ (vs : List ℕ). granted (Words vs))
+      (ext-getD 0 (take n (drop e (x .words))) us (simp (length-take, length-drop) (omega (arith, x .is-left)))
+      (λ k hk.
+      let small-k : k < n = omega (arith, hk, length-take n (drop e (x .words))) in
+      getD-take n (drop e (x .words)) k 0 small-k ∙ getD-drop e (x .words) k 0
+      ∙ sym (each k small-k
+      ∙ ap (λ (z : ℕ). getD ws z 0) (omega (arith, x .is-at))
+      ∙ along-get (λ z v. getD ws z 0 ≡ v) (x .start + 1) (x .words) 0 (e + k) (omega (arith, x .is-left)) (x .stands .shows .2))))
 
 -- ── Where the run lies, over any words ─────────────────────────────────
 
 small-run : (F N k y l : ℕ) (p q r u : Bool) (a b c d : Refusal) → F < 2 ^ 18 → N < 2 ^ 18 → (r ≡ false → k < N)
-  → _≡_ {A = Result (ℕ × ℕ) Refusal} (Ok (y, l)) (cond p (Err a) (cond q (Err b) (and-then (cond r (Err c) (Ok k)) (λ k. cond u (Ok (F + k, N - k)) (Err d))))) → y + l < 2 ^ 19
+    → _≡_ {A = Result (ℕ × ℕ) Refusal} (Ok (y, l)) (cond p (Err a) (cond q (Err b) (and-then (cond r (Err c) (Ok k)) (λ k. cond u (Ok (F + k, N - k)) (Err d))))) → y + l < 2 ^ 19
 small-run F N k y l true q r u a b c d hF hN hk e = let z : _≡_ {A = ℕ} 0 1 = cc in absurd (omega arith)
 small-run F N k y l false true r u a b c d hF hN hk e = let z : _≡_ {A = ℕ} 0 1 = cc in absurd (omega arith)
 small-run F N k y l false false true u a b c d hF hN hk e = let z : _≡_ {A = ℕ} 0 1 = cc in absurd (omega arith)
@@ -167,7 +167,7 @@ row-small : (w kind : ℕ) (i : ℤ) (j y l : ℕ) → Ok (y, l) ≡ row-chosen 
 unfolding row-chosen chosen
 row-small w kind i j y l e =
     small-run (unpacked w .first) (unpacked w .length) (element (unpacked w .base) i) y l (eqb w 0) (unpacked w .r) (off (unpacked w .base) (unpacked w .length) i) (eqb (unpacked w .kind) kind)
-      _ _ _ _ (omega arith) (omega arith) (element-lt (unpacked w .base) i (unpacked w .length)) e
+    _ _ _ _ (omega arith) (omega arith) (element-lt (unpacked w .base) i (unpacked w .length)) e
 
 pub found-small : (ws : List ℕ) (t : Trace) (kind : ℕ) (i : ℤ) (y l : ℕ) → Ok (y, l) ≡ row-found ws t kind i → y + l < 2 ^ 19
 unfolding row-found
@@ -191,8 +191,8 @@ module _ (ws : List ℕ) (h : Holds ws) (t : Trace) (kind : ℕ) (i z : ℤ) (q 
       → Booked ws (on t (Row-write kind i vs)) (granted Done) us
   row-write-done vs some l us is =
       granted-owes ws h t (Row-write kind i vs) Done us (run-granted ws (h .arrangement) t kind i (few-words ws h t kind i) y left x vs some l)
-        (subst (λ (us : List ℕ). Displays us (rearranged t (Row-write kind i vs) (h .arrangement))) (sym is)
-          (run-written ws (h .arrangement) t kind i (few-words ws h t kind i) y left x vs (h .sound) (h .shown) l))
+      (subst (λ (us : List ℕ). Displays us (rearranged t (Row-write kind i vs) (h .arrangement))) (sym is)
+      (run-written ws (h .arrangement) t kind i (few-words ws h t kind i) y left x vs (h .sound) (h .shown) l))
 
   pub row-read-refused : (n : ℕ) → (n ≡ 0) ⊎ (left < n) → refused BadLength ≡ book (length ws) (held-trees ws) (on t (Row-read kind i n)) .0
   row-read-refused n w =

@@ -40,7 +40,7 @@ module _ (ws : List ℕ) (few : length ws ≤ 2 ^ 18) (A : Arrangement) (t : Tra
       gone-row (getD ws at 0) z j _ (m .0) (m .1) refl
 
   down-codes : (depth s : ℕ) (b : ℤ) (ps : List (Placed depth)) → Stands ws A t at depth (Codes s b ps)
-    → gone-down (getD ws at 0) z j ≡ and-then (cond (off b (length ps) z) (Err (OutOfBounds j)) (Ok (element b z))) (λ k. Ok (s + 1 + k))
+      → gone-down (getD ws at 0) z j ≡ and-then (cond (off b (length ps) z) (Err (OutOfBounds j)) (Ok (element b z))) (λ k. Ok (s + 1 + k))
   unfolding chosen
   down-codes depth s b ps st =
       let g = st .fits-in in
@@ -49,7 +49,7 @@ module _ (ws : List ℕ) (few : length ws ≤ 2 ^ 18) (A : Arrangement) (t : Tra
 
   -- where an element is refused, the exchange is, whichever of the two it was
   swap-off : (h i : ℤ) → (z ≡ h) ⊎ (z ≡ i) → (r : Refusal) → Err r ≡ gone-down (getD ws at 0) z j → Reached ws A t (Ok at)
-    → booked A t (Exchange h i) ≡ refused r
+      → booked A t (Exchange h i) ≡ refused r
   swap-off h i w r e (depth, Vacant, st) =
       let g = gone-nothing (getD ws at 0) z j (st .shows) in
       let q : r ≡ Unlabelled j = cc in
@@ -62,24 +62,25 @@ module _ (ws : List ℕ) (few : length ws ≤ 2 ^ 18) (A : Arrangement) (t : Tra
     where
       n-is : (k : ℤ) → off b (length (map (tree depth) ps)) k ≡ off b (length ps) k
       n-is k = ap (λ (n : ℕ). off b n k) (length-map ps (tree depth))
+
       pick : (q : Bool) → off b (length ps) z ≡ q → (z ≡ h) ⊎ (z ≡ i) → booked A t (Exchange h i) ≡ refused r
       pick true f (inl y) =
           let g = down-codes depth s b ps st ∙ ap (λ (q : Bool). and-then {B = ℕ} (cond q (Err (OutOfBounds j)) (Ok (element b z))) (λ k. Ok (s + 1 + k))) f in
           let q : r ≡ OutOfBounds j = cc in
           st .asked (Exchange h i) ∙ ap (reply _) (door-shut _ _ _ (or-left _ _ (n-is h ∙ ap (off b (length ps)) (sym y) ∙ f)))
-            ∙ ap (λ (x : Refusal). refused x) (sym q)
+          ∙ ap (λ (x : Refusal). refused x) (sym q)
       pick true f (inr y) =
           let g = down-codes depth s b ps st ∙ ap (λ (q : Bool). and-then {B = ℕ} (cond q (Err (OutOfBounds j)) (Ok (element b z))) (λ k. Ok (s + 1 + k))) f in
           let q : r ≡ OutOfBounds j = cc in
           st .asked (Exchange h i) ∙ ap (reply _) (door-shut _ _ _ (or-right _ _ (n-is i ∙ ap (off b (length ps)) (sym y) ∙ f)))
-            ∙ ap (λ (x : Refusal). refused x) (sym q)
+          ∙ ap (λ (x : Refusal). refused x) (sym q)
       pick false f y =
           let g = down-codes depth s b ps st ∙ ap (λ (q : Bool). and-then {B = ℕ} (cond q (Err (OutOfBounds j)) (Ok (element b z))) (λ k. Ok (s + 1 + k))) f in
           let q : _≡_ {A = ℕ} 0 1 = cc in absurd (omega arith)
 
   -- where it is granted, the element stands in a block of codewords
   on-codes : (x : ℕ) → Ok x ≡ gone-down (getD ws at 0) z j → (depth s : ℕ) (b : ℤ) (ps : List (Placed depth)) → Stands ws A t at depth (Codes s b ps)
-    → (off b (length ps) z ≡ false) × (x ≡ s + 1 + element b z)
+      → (off b (length ps) z ≡ false) × (x ≡ s + 1 + element b z)
   on-codes x e depth s b ps st = pick (off b (length ps) z) refl
     where
       pick : (q : Bool) → off b (length ps) z ≡ q → (off b (length ps) z ≡ false) × (x ≡ s + 1 + element b z)
@@ -91,9 +92,9 @@ module _ (ws : List ℕ) (few : length ws ≤ 2 ^ 18) (A : Arrangement) (t : Tra
           let q : x ≡ s + 1 + element b z = cc in (f, q)
 
 module _ (ws : List ℕ) (A : Arrangement) (o : Sound A) (s : Displays ws A) (few : length ws ≤ 2 ^ 18) (t : Trace) (at : ℕ) (h i : ℤ) (x y : ℕ)
-  (e : Ok x ≡ gone-down (getD ws at 0) h (1 + length (subscripts t))) (f : Ok y ≡ gone-down (getD ws at 0) i (1 + length (subscripts t))) where
+    (e : Ok x ≡ gone-down (getD ws at 0) h (1 + length (subscripts t))) (f : Ok y ≡ gone-down (getD ws at 0) i (1 + length (subscripts t))) where
   swap-on : Reached ws A t (Ok at)
-    → (booked A t (Exchange h i) ≡ granted Done)
+      → (booked A t (Exchange h i) ≡ granted Done)
       × Displays (relabelled (relabelled ws x (getD ws y 0)) y (getD ws x 0)) (rearranged t (Exchange h i) A)
   swap-on (depth, Vacant, st) =
       let g = gone-nothing (getD ws at 0) h (1 + length (subscripts t)) (st .shows) in
@@ -104,12 +105,13 @@ module _ (ws : List ℕ) (A : Arrangement) (o : Sound A) (s : Displays ws A) (fe
   swap-on (depth, Codes v b ps, st) =
       let p = on-codes ws few A t at h x e depth v b ps st in
       let q = on-codes ws few A t at i y f depth v b ps st in
-      let n-is : (k : ℤ) → off b (length (map (tree depth) ps)) k ≡ off b (length ps) k = λ k. ap (λ (n : ℕ). off b n k) (length-map ps (tree depth)) in
-      ( st .asked (Exchange h i) ∙ ap (reply _) (door-open _ _ _ (or-from _ _ (n-is h ∙ p .0) (n-is i ∙ q .0))) ∙ granted-now _ _
-      , subst (λ (k : ℕ). Displays (relabelled (relabelled ws k (getD ws y 0)) y (getD ws k 0)) (rearranged t (Exchange h i) A)) (sym (p .1))
-          (subst (λ (k : ℕ). Displays (relabelled (relabelled ws (v + 1 + element b h) (getD ws k 0)) k (getD ws (v + 1 + element b h) 0)) (rearranged t (Exchange h i) A)) (sym (q .1))
+      let n-is : (k : ℤ) → off b (length (map (tree depth) ps)) k ≡ off b (length ps) k = λ k. ap (λ (n : ℕ). off b n k) (length-map ps (tree depth)) in (
+        st .asked (Exchange h i) ∙ ap (reply _) (door-open _ _ _ (or-from _ _ (n-is h ∙ p .0) (n-is i ∙ q .0))) ∙ granted-now _ _,
+        subst (λ (k : ℕ). Displays (relabelled (relabelled ws k (getD ws y 0)) y (getD ws k 0)) (rearranged t (Exchange h i) A)) (sym (p .1))
+            (subst (λ (k : ℕ). Displays (relabelled (relabelled ws (v + 1 + element b h) (getD ws k 0)) k (getD ws (v + 1 + element b h) 0)) (rearranged t (Exchange h i) A)) (sym (q .1))
             (exchange-shown ws A o s t at depth v b ps st (element b h) (element b i) (element-lt b h (length ps) (p .0)) (element-lt b i (length ps) (q .0))
-              _ (st .there (exchanged h i)))))
+            _ (st .there (exchanged h i)))),
+      )
 
 module _ (ws : List ℕ) (h : Holds ws) (t : Trace) (at w : ℕ) (e : Ok at ≡ walked ws 1 (t .name) (subscripts t)) (is : w ≡ getD ws at 0) (i k : ℤ) (j : ℕ) (deep : j ≡ t .depth + 1) where
   few : length ws ≤ 2 ^ 18
@@ -118,17 +120,17 @@ module _ (ws : List ℕ) (h : Holds ws) (t : Trace) (at w : ℕ) (e : Ok at ≡ 
   step-is : (z z′ : ℤ) → z ≡ z′ → (r : Result ℕ Refusal) → r ≡ gone-down w z j → r ≡ gone-down (getD ws at 0) z′ (1 + length (subscripts t))
   step-is z z′ q r f =
       f ∙ ap (λ (n : ℕ). gone-down n z j) is ∙ ap (λ (y : ℤ). gone-down (getD ws at 0) y j) q
-        ∙ ap (gone-down (getD ws at 0) z′) (omega (arith, subscripts-count t))
+      ∙ ap (gone-down (getD ws at 0) z′) (omega (arith, subscripts-count t))
 
   pub swap-refused : (z z′ : ℤ) → z ≡ z′ → (z′ ≡ i) ⊎ (z′ ≡ k) → (r : Refusal) → Err r ≡ gone-down w z j → Booked ws (on t (Exchange i k)) (refused r) ws
   swap-refused z z′ q v r f =
       place-owes ws h t (Exchange i k) r (swap-off ws few (h .arrangement) t at z′ i k v r (step-is z z′ q (Err r) f) (came ws h t (Ok at) e))
 
   pub swap-done : (z y : ℤ) → z ≡ i → y ≡ k → (a b c d : ℕ) → Ok a ≡ gone-down w z j → Ok b ≡ gone-down w y j
-    → c ≡ getD ws a 0 → d ≡ getD ws b 0 → (us vs : List ℕ) → us ≡ relabelled ws a d → vs ≡ relabelled us b c
-    → Booked ws (on t (Exchange i k)) (granted Done) vs
+      → c ≡ getD ws a 0 → d ≡ getD ws b 0 → (us vs : List ℕ) → us ≡ relabelled ws a d → vs ≡ relabelled us b c
+      → Booked ws (on t (Exchange i k)) (granted Done) vs
   swap-done z y p q a b c d f g ec ed us vs eu ev =
       let vs-is : vs ≡ relabelled (relabelled ws a (getD ws b 0)) b (getD ws a 0) =
-            ev ∙ ap (λ (l : List ℕ). relabelled l b c) (eu ∙ ap (relabelled ws a) ed) ∙ ap (relabelled (relabelled ws a (getD ws b 0)) b) ec in
+      ev ∙ ap (λ (l : List ℕ). relabelled l b c) (eu ∙ ap (relabelled ws a) ed) ∙ ap (relabelled (relabelled ws a (getD ws b 0)) b) ec in
       let r = swap-on ws (h .arrangement) (h .sound) (h .shown) few t at i k a b (step-is z i p (Ok a) f) (step-is y k q (Ok b) g) (came ws h t (Ok at) e) in
       granted-owes ws h t (Exchange i k) Done vs (r .0) (subst (λ (l : List ℕ). Displays l (rearranged t (Exchange i k) (h .arrangement))) (sym vs-is) (r .1))

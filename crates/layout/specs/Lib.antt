@@ -8,6 +8,7 @@ pub mod Held
 pub mod Sound
 pub mod Holds
 pub mod Chains
+pub mod Released
 pub mod Walks
 pub mod Keeping
 pub mod Elements

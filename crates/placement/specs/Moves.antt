@@ -46,4 +46,3 @@ Over-gap at to link ws at′ to′ link′ ws′ = (at′ ≡ at + max (size-at 
 -- or over a block, which moves down
 abbrev pub Over-block : (at to link : ℕ) → List ℕ → (at′ to′ link′ : ℕ) → List ℕ → Type 0
 Over-block at to link ws at′ to′ link′ ws′ = (at′ ≡ at + block-size ws at) × (to′ ≡ to + block-size ws at) × (link′ ≡ link) × (ws′ ≡ stepped at to ws)
-
