@@ -1,5 +1,5 @@
 -- The label of a new block, door by door.
-use Rattle.std.proofs.Common.{◌≡◌, ℕ, Bool, true, false, cond, ◌&&◌, ◌||◌, eqb, ltb, ℤ, Ok, Err, sym, refl, ap, ◌∙◌}
+use Rattle.std.proofs.Common.{◌≡◌, ℕ, Bool, true, false, ◌||◌, ltb, ℤ, Ok, Err, sym, ap, ◌∙◌}
 use Rattle.std.proofs.lemmas.Bool.{cond-false, cond-true, eq-eqb, ne_eqb, or_left}
 use Rattle.booking.specs.declared.refusal.Refusal.TheVariants.{BadField, BadLength}
 use Rattle.ledger.specs.Doors.{bad_base, bad_fields}

@@ -1,5 +1,5 @@
 -- Some levels are left, or none.
-use Rattle.std.proofs.Common.{◌≡◌, ℕ, zero, suc, ◌-◌, ◌⊎◌, refl, subst, inl, inr, arith}
+use Rattle.std.proofs.Common.{◌≡◌, ℕ, suc, ◌-◌, ◌⊎◌, subst, inl, inr, arith}
 
 pub some_left : (P : ℕ → Type 0) (n : ℕ) → (n ≡ 0 → ⊥) → P (suc (n - 1)) → P n
 some_left P n h p = subst P (let e : suc (n - 1) ≡ n = omega arith in e) p

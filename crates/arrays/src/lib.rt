@@ -1,4 +1,6 @@
 // Whole arrays: the words that one takes up, freeing one, and taking one.
+#![tactic(auto)]
+
 mod freeing;
 mod releasing;
 mod taking;

@@ -1,4 +1,6 @@
 // Taking, freeing and tidying on examples, with the words that each leaves.
+#![tactic(auto)]
+
 #[cfg(test)]
 mod tests {
     use booking::{Amounts, Refusal, Trace};

@@ -1,4 +1,6 @@
 // What is said to a keeper, and what it says back: refusals, traces, kinds.
+#![tactic(auto)]
+
 mod kind;
 mod kinds;
 mod refusal;

@@ -1,4 +1,6 @@
 // How traces are used, and tests of traces, refusals and kinds.
+#![tactic(auto)]
+
 #[cfg(test)]
 mod tests;
 mod traces;

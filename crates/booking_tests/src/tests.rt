@@ -18,13 +18,13 @@ fn third(name: u64) -> Result<Trace, Refusal> {
 #[test]
 fn subscripts(rt: HostRuntime) -> Result<(), Fail> {
     let three = third(64)?;
-    assert_eq!(rt; three.subscripts(), &[-5, 0, i32::MAX]);
+    assert_eq!(rt; three.subscripts(), [-5, 0, i32::MAX].as_slice());
     match three.down(1) {
         Ok(_) => Err(Fail::new("a fourth subscript")),
         Err(back) => {
             assert_eq!(rt; back.0, Refusal::TooDeep);
             assert_eq!(rt; (back.1.name(), back.1.depth()), (64, 3));
-            assert_eq!(rt; back.1.subscripts(), &[-5, 0, i32::MAX]);
+            assert_eq!(rt; back.1.subscripts(), [-5, 0, i32::MAX].as_slice());
             Ok(())
         }
     }
@@ -33,8 +33,8 @@ fn subscripts(rt: HostRuntime) -> Result<(), Fail> {
 #[test]
 fn two_rows(rt: HostRuntime) -> Result<(), Fail> {
     let (one, other) = rows(3, 7, -7)?;
-    assert_eq!(rt; one.subscripts(), &[7]);
-    assert_eq!(rt; other.subscripts(), &[-7]);
+    assert_eq!(rt; one.subscripts(), [7].as_slice());
+    assert_eq!(rt; other.subscripts(), [-7].as_slice());
     Ok(())
 }
 

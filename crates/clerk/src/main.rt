@@ -1,4 +1,6 @@
 // A morning at the keeper: a store is joined from two banks, a keeper is made over it, measured, questioned and saved.
+#![tactic(auto)]
+
 mod report;
 mod words;
 

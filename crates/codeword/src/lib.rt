@@ -1,4 +1,6 @@
 // Codewords: the label of a block, as fields and as one word.
+#![tactic(auto)]
+
 ghost use Rattle.std.specs.Prelude.{◌≡◌, ◌^◌, ◌<◌, Decides};
 ghost use Rattle.codeword.specs.Codeword.{InWidth, packed, unpacked, Packs};
 ghost use Rattle.codeword.specs.Lawful.{lawful};

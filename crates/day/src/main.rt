@@ -1,4 +1,6 @@
 // A day at the keeper of open items, told to a clerk.
+#![tactic(auto)]
+
 mod opening;
 mod ragged;
 mod report;

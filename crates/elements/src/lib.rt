@@ -1,4 +1,6 @@
 // Elements of blocks in place: read, written, a whole row of them, exchanged; and the base of a block changed.
+#![tactic(auto)]
+
 mod exchanges;
 mod labels;
 mod rows;

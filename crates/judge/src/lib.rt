@@ -1,4 +1,6 @@
 // The judge of a saved list: whether a list of words holds together.
+#![tactic(auto)]
+
 ghost use Rattle.layout.specs.Holds.{Holds};
 ghost use Rattle.std.specs.Prelude.{Decides};
 

@@ -1,4 +1,6 @@
 // The keeper: 64 named arrays of arrays in one store of words.
+#![tactic(auto)]
+
 mod arrays_at;
 mod items;
 mod keeper;

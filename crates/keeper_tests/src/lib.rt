@@ -1,4 +1,6 @@
 // The keeper at work on examples, over the stores of a test's own.
+#![tactic(auto)]
+
 #[cfg(test)]
 mod tests {
     use booking::{Amounts, Refusal, Trace, Words};

@@ -1,10 +1,8 @@
 -- A block that was found room for is labelled at a place that labels nothing: the words display it.
-use Rattle.std.proofs.Common.{◌≡◌, ℕ, zero, suc, ◌+◌, ◌-◌, ◌<◌, ◌≤◌, Bool, true, false, ◌≢◌, List, [], ◌∷◌, ◌++◌, length, get_or, set, replicate, ℤ, sym, refl, ap, ◌∙◌, subst, inl, inr, add-zero, arith, length-set, get_or-set_other, get_or-set_same}
+use Rattle.std.proofs.Common.{◌≡◌, ℕ, zero, suc, ◌+◌, ◌<◌, ◌≤◌, Bool, true, false, ◌≢◌, List, ◌∷◌, ◌++◌, length, get_or, set, replicate, ℤ, sym, refl, ap, ◌∙◌, subst, add-zero, arith, length-set, get_or-set_other, get_or-set_same}
 use lib.ListN.{length-replicate}
-use Rattle.std.proofs.lemmas.Bool.{cases_eq}
 use Rattle.booking.specs.declared.trace.Trace.{Trace}
 use Rattle.codeword.specs.Codeword.{packed}
-use Rattle.codeword.specs.declared.Codeword.{Codeword}
 use Rattle.layout.specs.Arrangement.{Arrangement, Placed, Spot, Vacant, vacant}
 use Rattle.layout.specs.Gaps.{link}
 use Rattle.layout.specs.Holds.{Displays}
@@ -13,11 +11,11 @@ use Rattle.layout.specs.Places.{at_trace}
 use Rattle.layout.specs.Rearranged.{new_spot}
 use Rattle.layout.specs.Released.{run}
 use Rattle.layout.specs.Sound.{Each, Sound, covered, covers}
-use Rattle.layout.specs.Words.{Cell, back, cells, cells_along, datum_at, gap_cells, label, labelling, none}
+use Rattle.layout.specs.Words.{cells, cells_along, datum_at, gap_cells, labelling, none}
 use Rattle.layout.proofs.Cells.{Shown}
 use Rattle.layout.proofs.Cover.{covers_yes, each-++, each_left, each_right}
 use Rattle.layout.proofs.Frame.{cell, displays, inner_zero, live, to_shown}
-use Rattle.layout.proofs.Hits.{here, here_yes, hits, hits-++, hits_gaps, inner, one_word_each}
+use Rattle.layout.proofs.Hits.{here, here_yes, hits, hits-++, hits_gaps, one_word_each}
 use Rattle.layout.proofs.Kept.{link_covered, link_others}
 use Rattle.layout.proofs.Order.{Some}
 use Rattle.layout.proofs.Place.{Stands}

@@ -1,7 +1,7 @@
 -- The call that takes an array at a trace: its doors, the room that it asks for, and the words that it leaves.
-use Rattle.std.proofs.Common.{◌≡◌, ℕ, suc, ◌+◌, ◌-◌, ◌^◌, ◌<◌, ◌≤◌, Bool, true, false, cond, not, eqb, leb, List, length, get_or, set, ℤ, Ok, Err, Result, sym, refl, ap, ◌∙◌, subst, inl, inr, arith}
+use Rattle.std.proofs.Common.{◌≡◌, ℕ, suc, ◌+◌, ◌-◌, ◌<◌, ◌≤◌, Bool, true, false, cond, not, eqb, leb, List, length, set, ℤ, Ok, Err, Result, sym, refl, ap, ◌∙◌, subst, inl, inr, arith}
 use Rattle.std.proofs.lemmas.Bool.{cond-false, cond-true, eq-eqb, eqb-false, eqb-true, le-leb, ltb-false, or_parts, both_ways, cases_eq, not_from_false, or_left, or_right, lt-leb, ne_eqb}
-use Rattle.booking.specs.Bookings.{Deed, Done, Take, granted, on, refused}
+use Rattle.booking.specs.Bookings.{Done, Take, granted, on, refused}
 use Rattle.booking.specs.Traces.{subscripts}
 use Rattle.booking.specs.declared.refusal.Refusal.{Refusal}
 use Rattle.booking.specs.declared.refusal.Refusal.TheVariants.{BadField, BadLength, NoRoom}
@@ -9,7 +9,7 @@ use Rattle.booking.specs.declared.trace.Trace.{Trace}
 use Rattle.codeword.specs.Codeword.{InWidth, packed}
 use Rattle.codeword.specs.declared.Codeword.{Codeword}
 use Rattle.ledger.specs.Doors.{bad_fields}
-use Rattle.ledger.specs.Trees.{Trees, W, free}
+use Rattle.ledger.specs.Trees.{W, free}
 use Rattle.layout.specs.Arrangement.{Arrangement, Piece, Placed, Spot, pieces, tree, trees}
 use Rattle.layout.specs.Attached.{Attaches, aimed_at, label_taken}
 use Rattle.layout.specs.Booked.{Booked}

@@ -1,13 +1,13 @@
 -- Weighing the array at an address, by the codeword that is read there.
-use Rattle.std.proofs.Common.{◌≡◌, ℕ, zero, suc, ◌+◌, ◌-◌, ◌<◌, ◌≤◌, true, false, List, [], ◌∷◌, map, length, get_or, take, sym, refl, ap, ◌∙◌, subst, add-zero, arith, length-take}
+use Rattle.std.proofs.Common.{◌≡◌, ℕ, zero, suc, ◌+◌, ◌-◌, ◌<◌, true, false, List, [], ◌∷◌, map, length, get_or, take, sym, refl, ap, ◌∙◌, subst, add-zero, arith, length-take}
 use mathlib.Core.List.{map-map}
 use lib.ListN.{length-map}
 use Rattle.std.proofs.lemmas.Bool.{both_ways}
 use Rattle.codeword.specs.Codeword.{unpacked}
 use Rattle.codeword.specs.declared.Codeword.{Codeword}
-use Rattle.ledger.specs.Trees.{Tree, W, sum}
-use Rattle.layout.specs.Arrangement.{Codes, Data, Piece, Placed, Vacant, tree, vacant}
-use Rattle.layout.specs.Released.{Rooted, Row}
+use Rattle.ledger.specs.Trees.{W, sum}
+use Rattle.layout.specs.Arrangement.{Codes, Data, Placed, Vacant, tree, vacant}
+use Rattle.layout.specs.Released.{Row}
 use Rattle.layout.specs.Weights.{Weighs, WeighsEach, weight_of}
 use Rattle.layout.proofs.Releases.{elements, of_row, of_table}
 use Rattle.layout.proofs.Releasing.{row_part, row_rooted}

@@ -1,5 +1,5 @@
 -- The tree that a name holds, read off the words.
-use Rattle.std.specs.Prelude.{ℕ, zero, suc, cond, List, map, length, take, drop, ◌==◌}
+use Rattle.std.specs.Prelude.{ℕ, zero, suc, cond, List, map, take, drop, ◌==◌}
 use Rattle.codeword.specs.Codeword.{unpacked}
 use Rattle.codeword.specs.declared.Codeword.{Codeword}
 use Rattle.ledger.specs.Trees.{Node, Nothing, Row, Table, Tree, Trees}

@@ -1,4 +1,6 @@
 // Where trees lie in a store, and what its words then are. The crate is definitions and their laws; each function stands for one law.
+#![tactic(auto)]
+
 ghost use Rattle.layout.specs.Determined.{Determined};
 ghost use Rattle.layout.specs.Figures.{Figures};
 ghost use Rattle.layout.specs.Lawful.{Lawful};

@@ -1,4 +1,6 @@
 // Trees under names, and what each booking answers and changes. The crate is definitions and their laws; each function stands for one law.
+#![tactic(auto)]
+
 ghost use Rattle.ledger.specs.Laws.{LargerGrantsAlike, RoomIsExact, RowWrittenIsRead, WrittenIsRead};
 
 /// Past every earlier door, a booking is refused for room exactly when there is none.

@@ -1,4 +1,6 @@
 // Lists loaded into a keeper: which hold together, and what the store then has.
+#![tactic(auto)]
+
 #[cfg(test)]
 mod tests {
     use booking::{Amounts, Refusal, Trace};

@@ -1,4 +1,6 @@
 // Moving words in a store: closing blocks up, the chain of gaps, finding room.
+#![tactic(auto)]
+
 mod chain;
 mod closing;
 mod finding;

@@ -1,4 +1,6 @@
 // Stores of 64-bit words: what a store is, three makes of it, and access to one without refusals.
+#![tactic(auto)]
+
 mod access;
 mod bulk;
 mod byte_bank;

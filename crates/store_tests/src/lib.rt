@@ -1,4 +1,6 @@
 // Stores at work: a lender learns what its list holds, and examples are run.
+#![tactic(auto)]
+
 ghost use Rattle.store.specs.Edits.{zeroed};
 ghost use Rattle.store.specs.Words.{beyond, lent_words};
 ghost use Rattle.std.specs.Prelude.{◌≡◌};

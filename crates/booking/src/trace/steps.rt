@@ -67,7 +67,7 @@ impl Trace {
 
 /// The refusal alone, as `?` takes it; the trace handed back is let go.
 impl From<(Refusal, Trace)> for Refusal {
-    ghost from_gives = { λ back r. r ≡ back.0 };
+    ghost from_gives = { λ pair r. r ≡ pair.0 };
 
     fn from(back: (Refusal, Trace)) -> Refusal {
         back.0

@@ -35,23 +35,23 @@ pub release-returns : goal.release-returns
 release-returns g t c =
     let ws = g.S.Store.words c.args.store.now in
     let us = g.S.Store.words c.if-label.store in
-    let vs = g.S.Store.words c.link-gap-after.new.store in
+    let vs = g.S.Store.words c.link_gap_after.new.store in
     let xs = g.S.Store.words c.put.new.store in
     let at = c.args.at in
     let p = c.args.progress in
     let q = c.if-label.reached in
     let l = c.unpack-label.result in
-    let first = c.saturating-sub-start.ensures in
-    let L : Links us q.last (l.first - 1) (l.length + 1) vs = rw (← first) c.link-gap-after.ensures.links in
-    let long : length xs ≡ length us = ap length c.put.ensures.after ∙ length-set vs at 0 ∙ c.link-gap-after.ensures.count in
-    let same = c.put.ensures.rest ∙ c.link-gap-after.ensures.rest in
+    let first = c.saturating_sub-start.ensures in
+    let L : Links us q.last (l.first - 1) (l.length + 1) vs = rw (← first) c.link_gap_after.ensures.links in
+    let long : length xs ≡ length us = ap length c.put.ensures.after ∙ length-set vs at 0 ∙ c.link_gap_after.ensures.count in
+    let same = c.put.ensures.rest ∙ c.link_gap_after.ensures.rest in
     elim c.if-label.branch [
       | release-then-label w ↦
-          let e = w.release-each-reached.ensures in
+          let e = w.release_each-reached.ensures in
           let C : ClearsWithin (c.args.levels - 1) ws l.first l.length (p.left - (l.length + 1)) p.last us q.left q.last =
           rw (w.store-is, w.reached-is) e.clears in
           record {
-            releases = some_left (λ (n : ℕ). ReleasesWithin n ws at p.left p.last xs q.left c.saturating-sub-start.result) c.args.levels c.if-levels-eq0.false
+            releases = some_left (λ (n : ℕ). ReleasesWithin n ws at p.left p.last xs q.left c.saturating_sub-start.result) c.args.levels c.if-levels-eq0.false
                 (rw first (released_table _ ws at _ c.word-code.ensures l c.unpack-label.ensures.gives c.if-code-eq0.false p.left p.last
                 w.if-label.true (omega (arith, c.if-progress-size.false)) us vs xs q.left q.last C L c.put.ensures.after));
             count = long ∙ ap (λ s. length (g.S.Store.words s)) w.store-is ∙ e.count;
@@ -59,7 +59,7 @@ release-returns g t c =
           }
       | release-else-label w ↦
           record {
-            releases = some_left (λ (n : ℕ). ReleasesWithin n ws at p.left p.last xs q.left c.saturating-sub-start.result) c.args.levels c.if-levels-eq0.false
+            releases = some_left (λ (n : ℕ). ReleasesWithin n ws at p.left p.last xs q.left c.saturating_sub-start.result) c.args.levels c.if-levels-eq0.false
                 (rw (first, w.reached-is) (released_row _ ws at _ c.word-code.ensures l c.unpack-label.ensures.gives c.if-code-eq0.false p.left p.last
                 w.if-label.false (omega (arith, c.if-progress-size.false)) vs xs (rw (w.store-is, w.reached-is) at L) c.put.ensures.after));
             count = long ∙ ap (λ s. length (g.S.Store.words s)) w.store-is;
@@ -67,8 +67,8 @@ release-returns g t c =
           }
     ]
 
-pub release-each-returns : goal.release-each-returns
-release-each-returns g t c =
+pub release_each-returns : goal.release_each-returns
+release_each-returns g t c =
     let ws = g.S.Store.words c.args.store.now in
     let p = c.args.progress in
     let q = c.loop-i.reached in
@@ -79,12 +79,12 @@ release-each-returns g t c =
       rest = c.loop-i.invariant.2;
     }
 
-pub release-each-loop-i-init : goal.release-each-loop-i-init
-release-each-loop-i-init g t c =
+pub release_each-loop-i-init : goal.release_each-loop-i-init
+release_each-loop-i-init g t c =
     (clears_none c.args.levels (g.S.Store.words c.args.store.now) c.args.at c.args.progress.left c.args.progress.last, refl, refl)
 
-pub release-each-loop-i-preserved : goal.release-each-loop-i-preserved
-release-each-loop-i-preserved g t c =
+pub release_each-loop-i-preserved : goal.release_each-loop-i-preserved
+release_each-loop-i-preserved g t c =
     let e = c.release-reached.ensures in
     let i = c.loop-i.invariant in (
       clears_more c.args.levels _ _ _ c.args.at c.loop-i.i _ _ _ _ _ _ i.0 e.releases,

@@ -37,19 +37,19 @@ weigh-returns-then-not-label g t c =
 pub weigh-returns : goal.weigh-returns
 weigh-returns g t c =
     let ws = g.S.Store.words c.args.store.now in
-    let n = c.weigh-each.result in
+    let n = c.weigh_each.result in
     record {
       weighs = some_left (λ (k : ℕ). Weighs k ws c.args.at c.args.limit (c.unpack-label.result.length + 1 + n)) c.args.levels c.if-levels-eq0.false
           (weighs_table _ ws c.args.at _ c.word-code.ensures c.args.limit c.unpack-label.result c.unpack-label.ensures.gives c.if-code-eq0.false
-          (not-false _ c.if-not-label.false) n c.weigh-each.ensures.weighs);
-      within = omega (arith, c.if-limit-own.false, c.weigh-each.ensures.within);
+          (not-false _ c.if-not-label.false) n c.weigh_each.ensures.weighs);
+      within = omega (arith, c.if-limit-own.false, c.weigh_each.ensures.within);
     }
 
-pub weigh-each-loop-i-init : goal.weigh-each-loop-i-init
-weigh-each-loop-i-init g t c = (each_none c.args.levels (g.S.Store.words c.args.store.now) c.args.at c.args.limit, omega arith)
+pub weigh_each-loop-i-init : goal.weigh_each-loop-i-init
+weigh_each-loop-i-init g t c = (each_none c.args.levels (g.S.Store.words c.args.store.now) c.args.at c.args.limit, omega arith)
 
-pub weigh-each-loop-i-preserved : goal.weigh-each-loop-i-preserved
-weigh-each-loop-i-preserved g t c = (
+pub weigh_each-loop-i-preserved : goal.weigh_each-loop-i-preserved
+weigh_each-loop-i-preserved g t c = (
   each_more c.args.levels (g.S.Store.words c.args.store.now) c.args.at c.loop-i.i c.args.limit c.loop-i.sum c.weigh-sum.result c.loop-i.invariant.0
       c.weigh-sum.ensures.weighs,
   omega (arith, c.loop-i.invariant.1, c.weigh-sum.ensures.within),

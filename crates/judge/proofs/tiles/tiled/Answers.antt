@@ -8,18 +8,18 @@ use Rattle.judge.proofs.tiles.tiled.Goals as goal
 pub loop-at-init : goal.loop-at-init
 loop-at-init c = (c.requires.0, (length c.args.words.now, omega arith, refl))
 
-pub returns-in-default : goal.returns-in-default
-returns-in-default c =
+pub returns-in_default : goal.returns-in_default
+returns-in_default c =
     let ws = c.args.words.now in
     let x = c.loop-at.at in
     let left = c.loop-at.left in
     sym (scan_no_gap c.loop-at.invariant.1.0 ws x left.next left.size (flags c.loop-at.marks.bits) c.loop-at-test.true c.if-at-left.true
-    (no_gap ws x left.size c.in-default.ensures))
+    (no_gap ws x left.size c.in_default.ensures))
     ∙ c.loop-at.invariant.1.2
 
 -- the gap at hand has at most the words that are left, and ends by the end
-pub overflow-sub-left : goal.overflow-sub-left
-overflow-sub-left c =
+pub overflow_sub-left : goal.overflow_sub-left
+overflow_sub-left c =
     let ws = c.args.words.now in
     let x = c.loop-at.at in
     let g = some_gap ws x c.loop-at.left.size c.in-Some.gap c.in-Some.ensures in
@@ -58,14 +58,14 @@ returns-then-size-words c =
     let ws = c.args.words.now in
     let x = c.loop-at.at in
     let left = c.loop-at.left in
-    let s : c.block-size-size.result ≡ tile_size c.args.words.now c.loop-at.at = size_told c.args.words.now c.loop-at.at c.block-size-size.ensures in
-    let l : length c.args.words.now - c.loop-at.at < c.block-size-size.result = c.if-size-words.true in
+    let s : c.block_size-size.result ≡ tile_size c.args.words.now c.loop-at.at = size_told c.args.words.now c.loop-at.at c.block_size-size.ensures in
+    let l : length c.args.words.now - c.loop-at.at < c.block_size-size.result = c.if-size-words.true in
     sym (scan_no_block c.loop-at.invariant.1.0 ws x left.next left.size (flags c.loop-at.marks.bits) c.loop-at-test.true c.if-at-left.false
     (omega (arith, s, l)))
     ∙ c.loop-at.invariant.1.2
 
 pub loop-at-smaller : goal.loop-at-smaller
-loop-at-smaller c = omega (arith, size_pos c.args.words.now c.loop-at.at, size_told c.args.words.now c.loop-at.at c.block-size-size.ensures)
+loop-at-smaller c = omega (arith, size_pos c.args.words.now c.loop-at.at, size_told c.args.words.now c.loop-at.at c.block_size-size.ensures)
 
 pub loop-at-preserved : goal.loop-at-preserved
 loop-at-preserved c =
@@ -74,9 +74,9 @@ loop-at-preserved c =
     let left = c.loop-at.left in
     let k : ℕ = c.loop-at.invariant.1.0 in
     let f : length c.args.words.now - c.loop-at.at ≤ k = c.loop-at.invariant.1.1 in
-    let n = c.block-size-size.result in
-    let s : c.block-size-size.result ≡ tile_size c.args.words.now c.loop-at.at = size_told c.args.words.now c.loop-at.at c.block-size-size.ensures in
-    let m : c.block-size-size.result ≤ length c.args.words.now - c.loop-at.at = c.if-size-words.false in
+    let n = c.block_size-size.result in
+    let s : c.block_size-size.result ≡ tile_size c.args.words.now c.loop-at.at = size_told c.args.words.now c.loop-at.at c.block_size-size.ensures in
+    let m : c.block_size-size.result ≤ length c.args.words.now - c.loop-at.at = c.if-size-words.false in
     let p : 1 ≤ tile_size c.args.words.now c.loop-at.at = size_pos c.args.words.now c.loop-at.at in
     let l : c.loop-at.at < length c.args.words.now = c.loop-at-test.true in (
       omega (arith, m, l),
@@ -93,6 +93,6 @@ pub returns : goal.returns
 returns c =
     let left = c.loop-at.left in
     let ms = flags c.loop-at.marks.bits in
-    ap (λ (b : Bool). outcome b ms) c.is-over.ensures
+    ap (λ (b : Bool). outcome b ms) c.is_over.ensures
     ∙ sym (scan_end c.loop-at.invariant.1.0 c.args.words.now c.loop-at.at left.next left.size ms c.loop-at-test.false)
     ∙ c.loop-at.invariant.1.2

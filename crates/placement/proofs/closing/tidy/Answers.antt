@@ -5,7 +5,7 @@ use Rattle.placement.proofs.Tail.{length_gap_from, tidied_so}
 use Rattle.placement.proofs.closing.tidy.Goals as goal
 
 pub loop-scan-init : goal.loop-scan-init
-loop-scan-init g c = (lit≤ tt, lit≤ tt, refl, refl, λ A o s. ((tiles A o).order, rw c.head-at.ensures.next (walk_start A o _ s)))
+loop-scan-init g c = (lit≤ tt, lit≤ tt, refl, refl, λ A o s. ((tiles A o).order, rw c.head_at.ensures.next (walk_start A o _ s)))
 
 pub loop-scan-preserved : goal.loop-scan-preserved
 loop-scan-preserved g c =
@@ -23,12 +23,12 @@ loop-scan-preserved g c =
 pub returns : goal.returns
 returns g c =
     let i = c.loop-scan.invariant in
-    let w = c.leave-gap.ensures.words in
+    let w = c.leave_gap.ensures.words in
     record {
       words = λ h.
           let A = h.arrangement in
           let W = i.4 A h.sound h.shown in
           rw w (tidied_so A h.sound _ h.shown W.0 _ _ _ _ W.1 (omega (arith, h.shown.count)));
       count = rw w (length_gap_from _ _ ∙ i.2);
-      rest = c.leave-gap.ensures.rest ∙ i.3;
+      rest = c.leave_gap.ensures.rest ∙ i.3;
     }

@@ -4,16 +4,16 @@ use Rattle.placement.proofs.gaps.combine.Goals as goal
 
 pub loop-at-init : goal.loop-at-init
 loop-at-init g c =
-    let a = c.head-at-at.ensures.next in
-    let n = c.head-at-next.ensures.next in
+    let a = c.head_at-at.ensures.next in
+    let n = c.head_at-next.ensures.next in
     (omega arith, omega arith, refl, refl, λ gs G. rw (n, a) (merge_start _ gs G))
 
 pub returns-then-after-next : goal.returns-then-after-next
 returns-then-after-next g c =
     let i = c.loop-at.invariant in
-    let j = c.join-next-at.ensures in
+    let j = c.join_next-at.ensures in
     record {
-      combines = λ gs G. rw j.words ((turn _ _ gs _ _ c.loop-at-test.true (i.4 gs G)).1 (rw c.head-at-after.ensures.next at c.if-after-next.true));
+      combines = λ gs G. rw j.words ((turn _ _ gs _ _ c.loop-at-test.true (i.4 gs G)).1 (rw c.head_at-after.ensures.next at c.if-after-next.true));
       count = rw j.words (turned_long _ _ _ ∙ i.2);
       rest = j.rest ∙ i.3;
     }
@@ -21,8 +21,8 @@ returns-then-after-next g c =
 pub loop-at-preserved : goal.loop-at-preserved
 loop-at-preserved g c =
     let i = c.loop-at.invariant in
-    let j = c.join-next-at.ensures in
-    let n = c.head-at-after.ensures.next in (
+    let j = c.join_next-at.ensures in
+    let n = c.head_at-after.ensures.next in (
       rw j.last (last_small _ _ _ _ i.0 i.1),
       omega arith,
       rw j.words (turned_long _ _ _ ∙ i.2),

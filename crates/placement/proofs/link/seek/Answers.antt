@@ -5,7 +5,7 @@ use Rattle.placement.proofs.link.seek.Goals.{then-from-at, else-from-at}
 
 pub loop-before-init : goal.loop-before-init
 loop-before-init g c =
-    let e = c.head-at-next.ensures.next in (
+    let e = c.head_at-next.ensures.next in (
       omega arith,
       elim c.if-from-at.branch [
         | then-from-at w ↦ rw e (seek_from _ _ _ _ w.before-is w.if-from-at.true)
@@ -18,7 +18,7 @@ returns-then-at-next g c = seek_stop _ _ _ _ _ c.loop-before.invariant.1 c.if-at
 
 pub loop-before-preserved : goal.loop-before-preserved
 loop-before-preserved g c =
-    let e = c.head-at-next-in-loop-before.ensures.next in
+    let e = c.head_at-next-in-loop-before.ensures.next in
     (omega arith, rw e (seek_on _ _ _ _ _ c.loop-before.invariant.1 c.loop-before-test.true c.if-at-next.false))
 
 pub returns : goal.returns

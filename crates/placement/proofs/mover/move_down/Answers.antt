@@ -8,4 +8,4 @@ loop-i-init g c = (refl, refl)
 
 pub loop-i-preserved : goal.loop-i-preserved
 unfolding copied
-loop-i-preserved g c = (rw (add-one, c.copy-word.ensures.words, c.loop-i.invariant.0), c.copy-word.ensures.rest ∙ c.loop-i.invariant.1)
+loop-i-preserved g c = (rw (add-one, c.copy_word.ensures.words, c.loop-i.invariant.0), c.copy_word.ensures.rest ∙ c.loop-i.invariant.1)

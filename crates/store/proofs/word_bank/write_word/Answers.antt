@@ -3,8 +3,8 @@ use Rattle.store.specs.Members.{length_lent}
 use Rattle.store.proofs.Fronts.{lent_set, beyond_set}
 use Rattle.store.proofs.word_bank.write_word.Goals as goal
 
-pub offset-bounds-list-at : goal.offset-bounds-list-at
-offset-bounds-list-at c = let n = length_lent c.args.list.now in search rules
+pub offset_bounds-list-at : goal.offset_bounds-list-at
+offset_bounds-list-at c = let n = length_lent c.args.list.now in search rules
 
 pub bounds-list-at : goal.bounds-list-at
 bounds-list-at c = omega (arith, length_lent c.args.list.now)

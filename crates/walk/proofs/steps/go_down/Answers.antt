@@ -12,17 +12,17 @@ pub returns-then-not-label : goal.returns-then-not-label
 returns-then-not-label c =
     sym (gone_row _ _ _ c.unpack-label.result c.unpack-label.ensures.gives c.if-code-eq0.false (not-true _ c.if-not-label.true))
 
-pub returns-in-err-k : goal.returns-in-err-k
-returns-in-err-k c =
-    let p = err_from_is_err_and c.from-residual.result c.from-residual.ensures.1 in
+pub returns-in_err-k : goal.returns-in_err-k
+returns-in_err-k c =
+    let p = err_from_is_err_and c.from_residual.result c.from_residual.ensures.1 in
     p.1 ∙ ap Err p.2
     ∙ gone_off c.args.code c.args.subscript c.args.step c.unpack-label.result c.unpack-label.ensures.gives c.if-code-eq0.false
-    (not-false _ c.if-not-label.false) _ (to_z-of_z w32 c.args.subscript c.ranges.subscript) _ c.in-err-k.ensures
+    (not-false _ c.if-not-label.false) _ (to_z-of_z w32 c.args.subscript c.ranges.subscript) _ c.in_err-k.ensures
 
-pub overflow-add-result : goal.overflow-add-result
-overflow-add-result c = omega (arith, chosen_lt _ _ _ _ c.in-ok-k.ensures)
+pub overflow_add-result : goal.overflow_add-result
+overflow_add-result c = omega (arith, chosen_lt _ _ _ _ c.in_ok-k.ensures)
 
 pub returns : goal.returns
 returns c =
     gone_to c.args.code c.args.subscript c.args.step c.unpack-label.result c.unpack-label.ensures.gives c.if-code-eq0.false
-    (not-false _ c.if-not-label.false) _ (to_z-of_z w32 c.args.subscript c.ranges.subscript) _ c.in-ok-k.ensures
+    (not-false _ c.if-not-label.false) _ (to_z-of_z w32 c.args.subscript c.ranges.subscript) _ c.in_ok-k.ensures

@@ -9,16 +9,16 @@ use Rattle.walk.proofs.steps.walk.Goals as goal
 pub loop-subscript-init : goal.loop-subscript-init
 loop-subscript-init g c = (refl, ap (λ n. walked (g.S.Store.words c.args.store.now) 1 n (subscripts c.args.trace.now)) (sym c.name-at.ensures))
 
-pub returns-in-err-at : goal.returns-in-err-at
-returns-in-err-at g c =
-    let p = err_from_is_err_and c.from-residual.result c.from-residual.ensures.1 in
+pub returns-in_err-at : goal.returns-in_err-at
+returns-in_err-at g c =
+    let p = err_from_is_err_and c.from_residual.result c.from_residual.ensures.1 in
     let is = c.subscripts-subscript-items.result.now in
     let m = c.loop-subscript.subscript-index in
     let f : SFits w32 (get_or is m (pos 0)) = search rules in
     p.1 ∙ ap Err p.2
     ∙ sym (c.loop-subscript.invariant.1
     ∙ walked_off _ c.loop-subscript.step c.loop-subscript.at c.word.result m is _ c.subscripts-subscript-items.ensures _ c.loop-subscript-test.true c.word.ensures
-    (to_z-of_z w32 (get_or is m (pos 0)) f) _ c.in-err-at.ensures)
+    (to_z-of_z w32 (get_or is m (pos 0)) f) _ c.in_err-at.ensures)
 
 pub loop-subscript-preserved : goal.loop-subscript-preserved
 loop-subscript-preserved g c =
@@ -28,7 +28,7 @@ loop-subscript-preserved g c =
       omega arith,
       c.loop-subscript.invariant.1
           ∙ walked_on _ c.loop-subscript.step c.loop-subscript.at c.word.result m is _ c.subscripts-subscript-items.ensures _ c.loop-subscript-test.true c.word.ensures
-          (to_z-of_z w32 (get_or is m (pos 0)) f) _ c.in-ok-at.ensures,
+          (to_z-of_z w32 (get_or is m (pos 0)) f) _ c.in_ok-at.ensures,
     )
 
 pub returns : goal.returns

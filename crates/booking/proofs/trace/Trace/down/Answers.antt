@@ -4,11 +4,11 @@ use Rattle.std.proofs.lemmas.Int.{to_z-of_z}
 use Rattle.booking.proofs.Zeros.{zeros}
 use Rattle.booking.proofs.trace.Trace.down.Goals as goal
 
-pub invariant-of-result : goal.invariant-of-result
-invariant-of-result c =
+pub invariant_of-result : goal.invariant_of-result
+invariant_of-result c =
     let e = c.placed.ensures in
     let zero = ap (drop (c.args.self.depth + 1)) e ∙ zeros _ _ _ c.args.self.lawful.4 in
-    ((search rules, search rules, search rules, ap length e ∙ simp length-set c.args.self.lawful.3, zero), tt)
+    record { lawful = (search rules, search rules, search rules, ap length e ∙ simp length-set c.args.self.lawful.3, zero) }
 
 pub returns : goal.returns
 returns c =

@@ -13,10 +13,10 @@ returns-then-list-count g c = record {
   rest = refl;
 }
 
-pub returns-then-not-holds-together : goal.returns-then-not-holds-together
-returns-then-not-holds-together g c = record {
+pub returns-then-not-holds_together : goal.returns-then-not-holds_together
+returns-then-not-holds_together g c = record {
   loads = apart (omega (arith, c.if-list-count.false, c.count.ensures))
-      (λ h. not_both c.holds-together.result c.if-not-holds-together.true (c.holds-together.ensures.1 h)) refl refl;
+      (λ h. not_both c.holds_together.result c.if-not-holds_together.true (c.holds_together.ensures.1 h)) refl refl;
   rest = refl;
 }
 
@@ -24,7 +24,7 @@ pub returns : goal.returns
 returns g c =
     let same : length c.args.list.now ≡ length (g.S.Store.words c.args.self.now.store) = omega (arith, c.if-list-count.false, c.count.ensures) in
     record {
-      loads = together same (c.holds-together.ensures.0 c.if-not-holds-together.false) refl
-          (c.copy-in.ensures.after ∙ overlaid_all c.args.list.now (g.S.Store.words c.args.self.now.store) (sym same));
-      rest = c.copy-in.ensures.rest;
+      loads = together same (c.holds_together.ensures.0 c.if-not-holds_together.false) refl
+          (c.copy_in.ensures.after ∙ overlaid_all c.args.list.now (g.S.Store.words c.args.self.now.store) (sym same));
+      rest = c.copy_in.ensures.rest;
     }

@@ -8,5 +8,5 @@ returns g c =
     let same = eq-eqb _ _ (c.if-list-count.false ∙ c.count.ensures) in
     record {
       reply = sym (cond-true _ _ _ same);
-      list = c.copy-out.ensures ∙ overlaid_all _ _ (c.if-list-count.false ∙ c.count.ensures) ∙ sym (cond-true _ _ _ same);
+      list = c.copy_out.ensures ∙ overlaid_all _ _ (c.if-list-count.false ∙ c.count.ensures) ∙ sym (cond-true _ _ _ same);
     }

@@ -9,7 +9,7 @@ returns g c =
     record {
       booked = λ h.
           same_row (g.S.Store.words c.args.self.now.store) _ c.args.trace.now c.args.number c.args.subscript _ _ c.args.words.now _
-          (to_z-of_z w32 c.args.subscript c.ranges.subscript) (map_id c.args.words.now) (c.write-row.ensures.booked h);
-      count = c.write-row.ensures.count;
-      rest = c.write-row.ensures.rest;
+          (to_z-of_z w32 c.args.subscript c.ranges.subscript) (map_id c.args.words.now) (c.write_row.ensures.booked h);
+      count = c.write_row.ensures.count;
+      rest = c.write_row.ensures.rest;
     }
