@@ -10,7 +10,7 @@ use store::{Store, clear};
 
 /// Where a piece from `at` on belongs in the chain: the address of the word to link from, and that of the next gap. The search
 /// begins at the gap at `from` if that lies below, else at the header.
-fn seek<S: Store>(store: &S, from: u64, at: u64) -> (u64, u64)
+fn seek_from<S: Store>(store: &S, from: u64, at: u64) -> (u64, u64)
     ensures { (gs : List Piece) → Chained (S.Store.words store.now) gs → InChain from gs → Sought at gs result.0 result.1 }
 {
     let mut before = if from < at { from } else { 0 };
@@ -23,6 +23,13 @@ fn seek<S: Store>(store: &S, from: u64, at: u64) -> (u64, u64)
         next = head_at(store, next).next;
     }
     (before, 0)
+}
+
+/// The same, searched from the header on.
+fn seek<S: Store>(store: &S, at: u64) -> (u64, u64)
+    ensures { (gs : List Piece) → Chained (S.Store.words store.now) gs → Sought at gs result.0 result.1 }
+{
+    seek_from(store, 0, at)
 }
 
 /// Writes a gap of `size` words at `at` between two others, and adds it to the total.
@@ -45,15 +52,17 @@ pub fn link_gap_after<S: Store>(store: &mut S, from: u64, at: u64, size: u64)
     ensures rest { S.Store.rest store.new ≡ S.Store.rest store.old }
 {
     clear(store, at, size);
-    let (before, next) = seek(store, from, at);
+    let (before, next) = seek_from(store, from, at);
     splice(store, before, next, at, size);
 }
 
-/// The same, searched from the header on.
+/// Zeros the `size` words from `at` on and links them into the chain. They combine with none.
 pub fn link_gap<S: Store>(store: &mut S, at: u64, size: u64)
     ensures links { (p : Piece) (gs : List Piece) → p.start ≡ at → p.size ≡ size → Chained (S.Store.words store.old) gs → Loose p gs (length (S.Store.words store.old)) → Relinked (S.Store.words store.old) (S.Store.words store.new) (p ∷ gs) (link p gs) }
     ensures count { length (S.Store.words store.new) ≡ length (S.Store.words store.old) }
     ensures rest { S.Store.rest store.new ≡ S.Store.rest store.old }
 {
-    link_gap_after(store, 0, at, size);
+    clear(store, at, size);
+    let (before, next) = seek(store, at);
+    splice(store, before, next, at, size);
 }

@@ -2,7 +2,7 @@ use Rattle.std.proofs.Common.{◌-◌, ◌<◌, List}
 use Rattle.layout.specs.Arrangement.{Piece}
 use Rattle.layout.specs.Chains.{Chained, InChain}
 use Rattle.placement.proofs.Links.{Seeking}
-use Rattle.placement.proofs.link.seek.Given as goal
+use Rattle.placement.proofs.link.seek_from.Given as goal
 
 abbrev pub invariant-loop-before : goal.invariant-loop-before
 invariant-loop-before g l =
