@@ -6,7 +6,7 @@ use Rattle.codeword.specs.declared.Codeword.{Codeword}
 use Rattle.layout.specs.Arrangement.{Codes, Data, Piece, Placed, Vacant, pieces}
 use Rattle.layout.specs.Chains.{Chained, InChain, Loose, Relinked}
 use Rattle.layout.specs.Gaps.{link, link_all}
-use Rattle.layout.specs.Released.{ClearsWithin, Links, Ready, Released, ReleasesWithin, Rooted, Row, Spent, Releases, Clears, run, under}
+use Rattle.layout.specs.Released.{Clears, ClearsWithin, LinksAfter, Ready, Released, Releases, ReleasesWithin, Rooted, Row, Spent, run, under}
 use Rattle.layout.specs.Sound.{Each, covered, covers}
 use Rattle.layout.specs.Words.{labelling, total}
 use Rattle.layout.proofs.Carried.{few_words, linked_known}
@@ -15,6 +15,11 @@ use Rattle.layout.proofs.Emptied.{block_gone, own_inside, own_loose}
 use Rattle.layout.proofs.Order.{Some, concat_some, pieces_some}
 use Rattle.layout.proofs.Place.{shown_label}
 use Rattle.layout.proofs.Releasing.{run_within}
+
+-- a piece of so many words from an address on is linked
+abbrev pub Links : List ℕ → ℕ → ℕ → List ℕ → Type 0
+Links ws at size vs =
+    (p : Piece) (gs : List Piece) → p.start ≡ at → p.size ≡ size → Chained ws gs → Loose p gs (length ws) → Relinked ws vs (p ∷ gs) (link p gs)
 
 -- nothing is done
 nothing : (d : ℕ) (ws : List ℕ) (at : ℕ) (p : Placed d) (gs : List Piece) → pieces d p ≡ [] → get_or ws at 0 ≡ 0 → Chained ws gs → Released d ws ws at p gs
@@ -27,8 +32,11 @@ nothing d ws at p gs e z G = record {
 none_used : (left last : ℕ) (ps gs : List Piece) → ps ≡ [] → InChain last gs → Spent ps gs left left last
 none_used left last ps gs e k = record { used = omega (arith, ap total e); known = subst (λ (qs : List Piece). InChain last (link_all qs gs)) (sym e) k }
 
-pub released_deep : (ws : List ℕ) (at left last : ℕ) → ReleasesWithin 0 ws at left last ws left last
-released_deep ws at left last p gs r k = (nothing 0 ws at p gs refl r.shows r.chained, none_used left last (pieces 0 p) gs refl k.known)
+pub released_deep : (ws : List ℕ) (at : ℕ) → Releases 0 ws at ws
+released_deep ws at p gs r = nothing 0 ws at p gs refl r.shows r.chained
+
+pub released_deep_within : (ws : List ℕ) (at left last : ℕ) → ReleasesWithin 0 ws at left last ws left last
+released_deep_within ws at left last p gs r k = (released_deep ws at p gs r, none_used left last (pieces 0 p) gs refl k.known)
 
 -- the elements of a block of codewords
 pub elements : (d : ℕ) (ws : List ℕ) (at s : ℕ) (b : ℤ) (ps : List (Placed d)) (gs : List Piece) → Rooted (suc d) ws at (Codes s b ps) gs → Row d ws (s + 1) ps gs
@@ -58,64 +66,112 @@ module _ (d : ℕ) (ws : List ℕ) (at w : ℕ) (is : w ≡ get_or ws at 0) wher
       shown_label ws r.chained.few w s (length ps) b true 0 r.good.0 (omega arith) r.good.1 (omega arith) (is ∙ r.shows.0)
 
   -- no array stands there
-  pub released_none : w ≡ 0 → (left last : ℕ) → ReleasesWithin (suc d) ws at left last ws left last
-  released_none z left last Vacant gs r k = (nothing (suc d) ws at Vacant gs refl r.shows r.chained, none_used left last [] gs refl k.known)
-  released_none z left last (Data s b t vs) gs r k = absurd ((of_row s b t vs gs r).1 z)
-  released_none z left last (Codes s b ps) gs r k = absurd ((of_table s b ps gs r).1 z)
+  pub released_none : w ≡ 0 → Releases (suc d) ws at ws
+  released_none z Vacant gs r = nothing (suc d) ws at Vacant gs refl r.shows r.chained
+  released_none z (Data s b t vs) gs r = absurd ((of_row s b t vs gs r).1 z)
+  released_none z (Codes s b ps) gs r = absurd ((of_table s b ps gs r).1 z)
 
-  module _ (c : Codeword) (read : c ≡ unpacked w) (some : w ≡ 0 → ⊥) (left last : ℕ) where
-    -- more words than may be linked: no array that holds together
-    pub released_short : left < c.length + 1 → (vs : List ℕ) (left' last' : ℕ) → ReleasesWithin (suc d) ws at left last vs left' last'
-    released_short h vs left' last' Vacant gs r k = absurd (some (is ∙ r.shows))
-    released_short h vs left' last' (Data s b t zs) gs r k =
-        absurd (omega (arith, k.enough, ap (λ (x : Codeword). x.length) ((of_row s b t zs gs r).0 ∙ sym read)))
-    released_short h vs left' last' (Codes s b ps) gs r k =
-        absurd (omega (arith, k.enough, ap (λ (x : Codeword). x.length) ((of_table s b ps gs r).0 ∙ sym read)))
+  pub released_none_within : w ≡ 0 → (left last : ℕ) → ReleasesWithin (suc d) ws at left last ws left last
+  released_none_within z left last Vacant gs r k = (released_none z Vacant gs r, none_used left last [] gs refl k.known)
+  released_none_within z left last (Data s b t vs) gs r k = absurd ((of_row s b t vs gs r).1 z)
+  released_none_within z left last (Codes s b ps) gs r k = absurd ((of_table s b ps gs r).1 z)
 
-    pub released_row : c.r ≡ false → c.length + 1 ≤ left → (us vs : List ℕ) → Links ws last (c.first - 1) (c.length + 1) us → vs ≡ set us at 0
-        → ReleasesWithin (suc d) ws at left last vs (left - (c.length + 1)) (c.first - 1)
-    released_row q h us vs L e Vacant gs r k = absurd (some (is ∙ r.shows))
-    released_row q h us vs L e (Data s b t zs) gs r k =
+  -- the block of a row is linked, and its codeword emptied
+  row_gone : (us vs : List ℕ) → vs ≡ set us at 0 → (s : ℕ) (b : ℤ) (t : ℕ) (zs : List ℕ) (gs : List Piece) → Rooted (suc d) ws at (Data s b t zs) gs
+      → Relinked ws us (run s (length zs + 1) ∷ gs) (link (run s (length zs + 1)) gs) → Released (suc d) ws vs at (Data s b t zs) gs
+  row_gone us vs e s b t zs gs r S =
+      let own : Piece = run s (length zs + 1) in
+      let R : Relinked ws ws (run (s + 1) 0 ∷ gs) gs = record { long = refl; chained = r.chained; kept = λ y lo h. refl } in
+      let T = block_gone ws ws us at (run (s + 1) 0) own [] gs r.past r.inside r.own (λ y. omega (arith, covers_none y (s + 1))) R S in
+      record { relinked = subst (λ (z : List ℕ). Relinked ws z (run at 1 ∷ own ∷ gs) (link own gs)) (sym e) T.0; emptied = ap (λ (z : List ℕ). get_or z at 0) e ∙ T.1 }
+
+  -- that of a table is, after those below it
+  table_gone : (us vs xs : List ℕ) → xs ≡ set vs at 0 → (s : ℕ) (b : ℤ) (ps : List (Placed d)) (gs : List Piece) → Rooted (suc d) ws at (Codes s b ps) gs
+      → Relinked ws us (run (s + 1) (length ps) ∷ under d ps ++ gs) (link_all (under d ps) gs)
+      → Relinked us vs (run s (length ps + 1) ∷ link_all (under d ps) gs) (link (run s (length ps + 1)) (link_all (under d ps) gs))
+      → Released (suc d) ws xs at (Codes s b ps) gs
+  table_gone us vs xs e s b ps gs r R S =
+      let own : Piece = run s (length ps + 1) in
+      let rest = under d ps in
+      let T = block_gone ws us vs at (run (s + 1) (length ps)) own rest gs r.past r.inside r.own
+      (λ y. run_within y (s + 1) (length ps) s (length ps + 1) (omega arith) (omega arith)) R S in
+      record {
+        relinked = subst (λ (z : List ℕ). Relinked ws z (run at 1 ∷ own ∷ rest ++ gs) (link own (link_all rest gs))) (sym e) T.0;
+        emptied = ap (λ (z : List ℕ). get_or z at 0) e ∙ T.1;
+      }
+
+  module _ (c : Codeword) (read : c ≡ unpacked w) (some : w ≡ 0 → ⊥) where
+    pub released_row : c.r ≡ false → (us vs : List ℕ) → Links ws (c.first - 1) (c.length + 1) us → vs ≡ set us at 0 → Releases (suc d) ws at vs
+    released_row q us vs L e Vacant gs r = absurd (some (is ∙ r.shows))
+    released_row q us vs L e (Data s b t zs) gs r =
         let m : labelling (s + 1) (length zs) b false t ≡ c = (of_row s b t zs gs r).0 ∙ sym read in
-        let first : c.first - 1 ≡ s = omega (arith, ap (λ (x : Codeword). x.first) m) in
-        let n : c.length ≡ length zs = sym (ap (λ (x : Codeword). x.length) m) in
         let own : Piece = run s (length zs + 1) in
-        let R : Relinked ws ws (run (s + 1) 0 ∷ gs) gs = record { long = refl; chained = r.chained; kept = λ y lo h. refl } in
-        let S = L own gs (omega (arith, first)) (omega (arith, n)) r.chained (own_loose own [] gs (length ws) r.apart (omega arith)) k.known in
-        let T = block_gone ws ws us at (run (s + 1) 0) own [] gs r.past r.inside r.own (λ y. omega (arith, covers_none y (s + 1))) R S in (
-          record { relinked = subst (λ (z : List ℕ). Relinked ws z (run at 1 ∷ own ∷ gs) (link own gs)) (sym e) T.0; emptied = ap (λ (z : List ℕ). get_or z at 0) e ∙ T.1 },
-          record { used = omega (arith, n, k.enough); known = subst (λ (y : ℕ). InChain y (link own gs)) (sym first) (linked_known own gs) },
-        )
-    released_row q h us vs L e (Codes s b ps) gs r k = absurd (both_ways c.r q (sym (ap (λ (x : Codeword). x.r) ((of_table s b ps gs r).0 ∙ sym read))))
+        row_gone us vs e s b t zs gs r
+        (L own gs (omega (arith, ap (λ (x : Codeword). x.first) m)) (omega (arith, ap (λ (x : Codeword). x.length) m)) r.chained
+        (own_loose own [] gs (length ws) r.apart (omega arith)))
+    released_row q us vs L e (Codes s b ps) gs r = absurd (both_ways c.r q (sym (ap (λ (x : Codeword). x.r) ((of_table s b ps gs r).0 ∙ sym read))))
 
-    pub released_table : c.r ≡ true → c.length + 1 ≤ left → (us vs xs : List ℕ) (left' last' : ℕ)
-        → ClearsWithin d ws c.first c.length (left - (c.length + 1)) last us left' last' → Links us last' (c.first - 1) (c.length + 1) vs → xs ≡ set vs at 0
-        → ReleasesWithin (suc d) ws at left last xs left' (c.first - 1)
-    released_table q h us vs xs left' last' C L e Vacant gs r k = absurd (some (is ∙ r.shows))
-    released_table q h us vs xs left' last' C L e (Data s b t zs) gs r k =
-        absurd (both_ways c.r (sym (ap (λ (x : Codeword). x.r) ((of_row s b t zs gs r).0 ∙ sym read))) q)
-    released_table q h us vs xs left' last' C L e (Codes s b ps) gs r k =
+    pub released_table : c.r ≡ true → (us vs xs : List ℕ) → Clears d ws c.first c.length us → Links us (c.first - 1) (c.length + 1) vs → xs ≡ set vs at 0
+        → Releases (suc d) ws at xs
+    released_table q us vs xs C L e Vacant gs r = absurd (some (is ∙ r.shows))
+    released_table q us vs xs C L e (Data s b t zs) gs r = absurd (both_ways c.r (sym (ap (λ (x : Codeword). x.r) ((of_row s b t zs gs r).0 ∙ sym read))) q)
+    released_table q us vs xs C L e (Codes s b ps) gs r =
         let m : labelling (s + 1) (length ps) b true 0 ≡ c = (of_table s b ps gs r).0 ∙ sym read in
         let first : c.first ≡ s + 1 = sym (ap (λ (x : Codeword). x.first) m) in
         let n : c.length ≡ length ps = sym (ap (λ (x : Codeword). x.length) m) in
         let own : Piece = run s (length ps + 1) in
         let rest = under d ps in
-        let below = subst (λ (a : ℕ). ClearsWithin d ws a c.length (left - (c.length + 1)) last us left' last') first C ps gs (sym n) (elements d ws at s b ps gs r)
-        (record { enough = omega (arith, n, k.enough); known = k.known }) in
-        let R = below.0.relinked in
-        let S = L own (link_all rest gs) (omega (arith, first)) (omega (arith, n)) R.chained
-        (subst (Loose own (link_all rest gs)) (sym R.long) (own_loose own rest gs (length ws) r.apart (omega arith))) below.1.known in
-        let T = block_gone ws us vs at (run (s + 1) (length ps)) own rest gs r.past r.inside r.own
-        (λ y. run_within y (s + 1) (length ps) s (length ps + 1) (omega arith) (omega arith)) R S in (
-          record {
-            relinked = subst (λ (z : List ℕ). Relinked ws z (run at 1 ∷ own ∷ rest ++ gs) (link own (link_all rest gs))) (sym e) T.0;
-            emptied = ap (λ (z : List ℕ). get_or z at 0) e ∙ T.1;
-          },
-          record {
-            used = omega (arith, n, k.enough, below.1.used);
-            known = subst (λ (y : ℕ). InChain y (link own (link_all rest gs))) (let z : s ≡ c.first - 1 = omega arith in z) (linked_known own (link_all rest gs));
-          },
-        )
+        let R = (subst (λ (a : ℕ). Clears d ws a c.length us) first C ps gs (sym n) (elements d ws at s b ps gs r)).relinked in
+        table_gone us vs xs e s b ps gs r R
+        (L own (link_all rest gs) (omega (arith, first)) (omega (arith, n)) R.chained
+        (subst (Loose own (link_all rest gs)) (sym R.long) (own_loose own rest gs (length ws) r.apart (omega arith))))
+
+    module _ (left last : ℕ) where
+      -- more words than may be linked: no array that holds together
+      pub released_short : left < c.length + 1 → (vs : List ℕ) (left' last' : ℕ) → ReleasesWithin (suc d) ws at left last vs left' last'
+      released_short h vs left' last' Vacant gs r k = absurd (some (is ∙ r.shows))
+      released_short h vs left' last' (Data s b t zs) gs r k =
+          absurd (omega (arith, k.enough, ap (λ (x : Codeword). x.length) ((of_row s b t zs gs r).0 ∙ sym read)))
+      released_short h vs left' last' (Codes s b ps) gs r k =
+          absurd (omega (arith, k.enough, ap (λ (x : Codeword). x.length) ((of_table s b ps gs r).0 ∙ sym read)))
+
+      pub released_row_within : c.r ≡ false → c.length + 1 ≤ left → (us vs : List ℕ) → LinksAfter ws last (c.first - 1) (c.length + 1) us → vs ≡ set us at 0
+          → ReleasesWithin (suc d) ws at left last vs (left - (c.length + 1)) (c.first - 1)
+      released_row_within q h us vs L e Vacant gs r k = absurd (some (is ∙ r.shows))
+      released_row_within q h us vs L e (Data s b t zs) gs r k =
+          let m : labelling (s + 1) (length zs) b false t ≡ c = (of_row s b t zs gs r).0 ∙ sym read in
+          let first : c.first - 1 ≡ s = omega (arith, ap (λ (x : Codeword). x.first) m) in
+          let n : c.length ≡ length zs = sym (ap (λ (x : Codeword). x.length) m) in
+          let own : Piece = run s (length zs + 1) in (
+            row_gone us vs e s b t zs gs r
+                (L own gs (omega (arith, first)) (omega (arith, n)) r.chained (own_loose own [] gs (length ws) r.apart (omega arith)) k.known),
+            record { used = omega (arith, n, k.enough); known = subst (λ (y : ℕ). InChain y (link own gs)) (sym first) (linked_known own gs) },
+          )
+      released_row_within q h us vs L e (Codes s b ps) gs r k = absurd (both_ways c.r q (sym (ap (λ (x : Codeword). x.r) ((of_table s b ps gs r).0 ∙ sym read))))
+
+      pub released_table_within : c.r ≡ true → c.length + 1 ≤ left → (us vs xs : List ℕ) (left' last' : ℕ)
+          → ClearsWithin d ws c.first c.length (left - (c.length + 1)) last us left' last' → LinksAfter us last' (c.first - 1) (c.length + 1) vs → xs ≡ set vs at 0
+          → ReleasesWithin (suc d) ws at left last xs left' (c.first - 1)
+      released_table_within q h us vs xs left' last' C L e Vacant gs r k = absurd (some (is ∙ r.shows))
+      released_table_within q h us vs xs left' last' C L e (Data s b t zs) gs r k =
+          absurd (both_ways c.r (sym (ap (λ (x : Codeword). x.r) ((of_row s b t zs gs r).0 ∙ sym read))) q)
+      released_table_within q h us vs xs left' last' C L e (Codes s b ps) gs r k =
+          let m : labelling (s + 1) (length ps) b true 0 ≡ c = (of_table s b ps gs r).0 ∙ sym read in
+          let first : c.first ≡ s + 1 = sym (ap (λ (x : Codeword). x.first) m) in
+          let n : c.length ≡ length ps = sym (ap (λ (x : Codeword). x.length) m) in
+          let own : Piece = run s (length ps + 1) in
+          let rest = under d ps in
+          let below = subst (λ (a : ℕ). ClearsWithin d ws a c.length (left - (c.length + 1)) last us left' last') first C ps gs (sym n) (elements d ws at s b ps gs r)
+          (record { enough = omega (arith, n, k.enough); known = k.known }) in
+          let R = below.0.relinked in (
+            table_gone us vs xs e s b ps gs r R
+                (L own (link_all rest gs) (omega (arith, first)) (omega (arith, n)) R.chained
+                (subst (Loose own (link_all rest gs)) (sym R.long) (own_loose own rest gs (length ws) r.apart (omega arith))) below.1.known),
+            record {
+              used = omega (arith, n, k.enough, below.1.used);
+              known = subst (λ (y : ℕ). InChain y (link own (link_all rest gs))) (let z : s ≡ c.first - 1 = omega arith in z) (linked_known own (link_all rest gs));
+            },
+          )
 
 -- ── With as many words as the store has ────────────────────────────────
 

@@ -5,7 +5,7 @@ use Rattle.layout.specs.Arrangement.{Piece, Placed, concat, pieces, vacant}
 use Rattle.layout.specs.Chains.{Chained, InChain, Relinked}
 use Rattle.layout.specs.Gaps.{link_all}
 use Rattle.layout.specs.Holds.{Along, Shows}
-use Rattle.layout.specs.Released.{ClearsWithin, Released, ReleasesWithin, Rooted, Row, run, under}
+use Rattle.layout.specs.Released.{Cleared, Clears, ClearsWithin, Released, Releases, ReleasesWithin, Rooted, Row, run, under}
 use Rattle.layout.specs.Sound.{Good, covered, covers}
 use Rattle.layout.specs.Words.{cells, total}
 use Rattle.layout.proofs.Cells.{cells→shows, shows→cells}
@@ -205,16 +205,47 @@ row_part d ws a ps gs m n h r =
 
 -- ── As the loop goes ───────────────────────────────────────────────────
 
-pub clears_none : (d : ℕ) (ws : List ℕ) (a left last : ℕ) → ClearsWithin d ws a 0 left last ws left last
-clears_none d ws a left last [] gs n r k = (
-  record { relinked = record { long = refl; chained = r.chained; kept = λ y lo h. refl }; emptied = λ j l. absurd (omega arith) },
-  record { used = omega arith; known = k.known },
-)
-clears_none d ws a left last (p ∷ ps) gs n r k = absurd (omega arith)
+pub clears_none : (d : ℕ) (ws : List ℕ) (a : ℕ) → Clears d ws a 0 ws
+clears_none d ws a [] gs n r = record { relinked = record { long = refl; chained = r.chained; kept = λ y lo h. refl }; emptied = λ j l. absurd (omega arith) }
+clears_none d ws a (p ∷ ps) gs n r = absurd (omega arith)
+
+pub clears_none_within : (d : ℕ) (ws : List ℕ) (a left last : ℕ) → ClearsWithin d ws a 0 left last ws left last
+clears_none_within d ws a left last [] gs n r k = (clears_none d ws a [] gs n r, record { used = omega arith; known = k.known })
+clears_none_within d ws a left last (p ∷ ps) gs n r k = absurd (omega arith)
+
+-- the front of a row
+row_front : (d : ℕ) (ws : List ℕ) (a k : ℕ) (ps : List (Placed d)) (gs : List Piece) → k ≤ length ps → Row d ws a ps gs → Row d ws a (take k ps) gs
+row_front d ws a k ps gs h r = subst (λ (y : ℕ). Row d ws y (take k ps) gs) (add-zero a) (row_part d ws a ps gs 0 k (omega arith) r)
+
+-- once it is released, it is passed
+passed_front : (d : ℕ) (ws us : List ℕ) (a k : ℕ) (ps : List (Placed d)) (gs : List Piece) → length (take k ps) ≡ k → Cleared d ws us a (take k ps) gs
+    → Passed d ws us a k ps gs
+passed_front d ws us a k ps gs long c = record {
+  relinked = subst (λ (m : ℕ). Relinked ws us (run a m ∷ front (pieces d) k ps ++ gs) (link_all (front (pieces d) k ps) gs)) long c.relinked;
+  emptied = λ j h. c.emptied j (omega arith);
+}
+
+-- once all are passed, they are released
+passed_all : (d : ℕ) (ws vs : List ℕ) (a n : ℕ) (ps : List (Placed d)) (gs : List Piece) → length ps ≡ n → Passed d ws vs a n ps gs → Cleared d ws vs a ps gs
+passed_all d ws vs a n ps gs e P =
+    let Q = subst (λ (m : ℕ). Passed d ws vs a m ps gs) (sym e) P in
+    record {
+      relinked = subst (λ (zs : List Piece). Relinked ws vs (run a (length ps) ∷ zs ++ gs) (link_all zs gs)) (front_whole (pieces d) ps) Q.relinked;
+      emptied = Q.emptied;
+    }
+
+pub clears_more : (d : ℕ) (ws us vs : List ℕ) (a k : ℕ) → Clears d ws a k us → Releases d us (a + k) vs → Clears d ws a (k + 1) vs
+clears_more d ws us vs a k C R ps gs n r =
+    let long : length (take k ps) ≡ k = omega (arith, length-take k ps) in
+    let in_row : k < length ps = omega arith in
+    let P = passed_front d ws us a k ps gs long (C (take k ps) gs long (row_front d ws a k ps gs (omega arith) r)) in
+    let D = R (get_or ps k (vacant d)) (link_all (front (pieces d) k ps) gs) (pass_next d ws a ps gs r k in_row us P) in
+    passed_all d ws vs a (k + 1) ps gs n (pass_more d ws a ps gs r k in_row us P vs D)
 
 module _ (d : ℕ) (ws us vs : List ℕ) (a k left last left₁ last₁ left₂ last₂ : ℕ) where
-  pub clears_more : ClearsWithin d ws a k left last us left₁ last₁ → ReleasesWithin d us (a + k) left₁ last₁ vs left₂ last₂ → ClearsWithin d ws a (k + 1) left last vs left₂ last₂
-  clears_more C R ps gs n r ready =
+  pub clears_more_within : ClearsWithin d ws a k left last us left₁ last₁ → ReleasesWithin d us (a + k) left₁ last₁ vs left₂ last₂
+      → ClearsWithin d ws a (k + 1) left last vs left₂ last₂
+  clears_more_within C R ps gs n r ready =
       let long : length (take k ps) ≡ k = omega (arith, length-take k ps) in
       let q = get_or ps k (vacant d) in
       let F = front (pieces d) k ps in
@@ -222,19 +253,10 @@ module _ (d : ℕ) (ws us vs : List ℕ) (a k left last left₁ last₁ left₂ 
       let whole : front (pieces d) (k + 1) ps ≡ under d ps = ap (λ (m : ℕ). front (pieces d) m ps) (sym n) ∙ front_whole (pieces d) ps in
       let words : total (under d ps) ≡ total F + total (pieces d q) =
       ap total (sym whole ∙ ap (λ (m : ℕ). front (pieces d) m ps) (add-one k) ∙ front_more (pieces d) k ps (vacant d) in_row) ∙ total-++ F (pieces d q) in
-      let c = C (take k ps) gs long (subst (λ (y : ℕ). Row d ws y (take k ps) gs) (add-zero a) (row_part d ws a ps gs 0 k (omega arith) r))
-      (record { enough = omega (arith, ready.enough); known = ready.known }) in
-      let P : Passed d ws us a k ps gs = record {
-        relinked = subst (λ (m : ℕ). Relinked ws us (run a m ∷ F ++ gs) (link_all F gs)) long c.0.relinked;
-        emptied = λ j h. c.0.emptied j (omega arith);
-      } in
-      let D = R q (link_all F gs) (pass_next d ws a ps gs r k in_row us P)
-      (record { enough = omega (arith, ready.enough, c.1.used); known = c.1.known }) in
-      let Q = subst (λ (m : ℕ). Passed d ws vs a m ps gs) (sym n) (pass_more d ws a ps gs r k in_row us P vs D.0) in (
-        record {
-          relinked = subst (λ (zs : List Piece). Relinked ws vs (run a (length ps) ∷ zs ++ gs) (link_all zs gs)) (front_whole (pieces d) ps) Q.relinked;
-          emptied = Q.emptied;
-        },
+      let c = C (take k ps) gs long (row_front d ws a k ps gs (omega arith) r) (record { enough = omega (arith, ready.enough); known = ready.known }) in
+      let P = passed_front d ws us a k ps gs long c.0 in
+      let D = R q (link_all F gs) (pass_next d ws a ps gs r k in_row us P) (record { enough = omega (arith, ready.enough, c.1.used); known = c.1.known }) in (
+        passed_all d ws vs a (k + 1) ps gs n (pass_more d ws a ps gs r k in_row us P vs D.0),
         record {
           used = omega (arith, c.1.used, D.1.used);
           known = subst (InChain last₂) (sym (same d ws a ps gs r k in_row) ∙ ap (λ (zs : List Piece). link_all zs gs) whole) D.1.known;

@@ -15,8 +15,8 @@ run a n = record { start = a; size = n }
 -- ── One piece ──────────────────────────────────────────────────────────
 
 -- vs are the words after a piece of so many words from an address on was linked; the chain was searched from the gap at `from` on
-abbrev pub Links : (ws : List ℕ) (from at size : ℕ) (vs : List ℕ) → Type 0
-Links ws from at size vs =
+abbrev pub LinksAfter : (ws : List ℕ) (from at size : ℕ) (vs : List ℕ) → Type 0
+LinksAfter ws from at size vs =
     (p : Piece) (gs : List Piece) → p.start ≡ at → p.size ≡ size → Chained ws gs → Loose p gs (length ws) → InChain from gs
     → Relinked ws vs (p ∷ gs) (link p gs)
 
@@ -50,6 +50,10 @@ pub record Released (d : ℕ) (ws vs : List ℕ) (at : ℕ) (p : Placed d) (gs :
   pub emptied : slice_index_or vs at 0 ≡ 0
 
 -- vs are the words after the array at an address, of at most d blocks deep, was released; where there is none, all words stay
+abbrev pub Releases : (d : ℕ) (ws : List ℕ) (at : ℕ) (vs : List ℕ) → Type 0
+Releases d ws at vs = (p : Placed d) (gs : List Piece) → Rooted d ws at p gs → Released d ws vs at p gs
+
+-- the same of a release that carries something along, and what it carries then
 abbrev pub ReleasesWithin : (d : ℕ) (ws : List ℕ) (at left last : ℕ) (vs : List ℕ) (left' last' : ℕ) → Type 0
 ReleasesWithin d ws at left last vs left' last' =
     (p : Placed d) (gs : List Piece) → Rooted d ws at p gs → Ready (pieces d p) gs left last
@@ -76,14 +80,11 @@ pub record Cleared (d : ℕ) (ws vs : List ℕ) (a : ℕ) (ps : List (Placed d))
   pub emptied : (j : ℕ) → j < length ps → slice_index vs (a + j) ≡ 0
 
 -- vs are the words after the arrays below n elements from an address on were released
+abbrev pub Clears : (d : ℕ) (ws : List ℕ) (a n : ℕ) (vs : List ℕ) → Type 0
+Clears d ws a n vs = (ps : List (Placed d)) (gs : List Piece) → length ps ≡ n → Row d ws a ps gs → Cleared d ws vs a ps gs
+
+-- the same of a release that carries something along, and what it carries then
 abbrev pub ClearsWithin : (d : ℕ) (ws : List ℕ) (a n left last : ℕ) (vs : List ℕ) (left' last' : ℕ) → Type 0
 ClearsWithin d ws a n left last vs left' last' =
     (ps : List (Placed d)) (gs : List Piece) → length ps ≡ n → Row d ws a ps gs → Ready (under d ps) gs left last
     → Cleared d ws vs a ps gs × Spent (under d ps) gs left left' last'
-
--- the same, whatever a release carried along
-abbrev pub Releases : (d : ℕ) (ws : List ℕ) (at : ℕ) (vs : List ℕ) → Type 0
-Releases d ws at vs = (p : Placed d) (gs : List Piece) → Rooted d ws at p gs → Released d ws vs at p gs
-
-abbrev pub Clears : (d : ℕ) (ws : List ℕ) (a n : ℕ) (vs : List ℕ) → Type 0
-Clears d ws a n vs = (ps : List (Placed d)) (gs : List Piece) → length ps ≡ n → Row d ws a ps gs → Cleared d ws vs a ps gs

@@ -1,7 +1,7 @@
 ghost use Rattle.layout.specs.Arrangement.{Piece};
 ghost use Rattle.layout.specs.Chains.{Chained, InChain, Loose, Relinked};
 ghost use Rattle.layout.specs.Gaps.{link};
-ghost use Rattle.layout.specs.Released.{Links};
+ghost use Rattle.layout.specs.Released.{LinksAfter};
 ghost use Rattle.placement.specs.Links.{Sought, spliced};
 ghost use Rattle.std.specs.Prelude.{◌≡◌, List, ◌∷◌, length};
 
@@ -47,7 +47,7 @@ fn splice<S: Store>(store: &mut S, before: u64, next: u64, at: u64, size: u64)
 /// Zeros the `size` words from `at` on and links them into the chain, which is searched from the gap at `from` on. They combine
 /// with none.
 pub fn link_gap_after<S: Store>(store: &mut S, from: u64, at: u64, size: u64)
-    ensures links { Links (S.Store.words store.old) from at size (S.Store.words store.new) }
+    ensures links { LinksAfter (S.Store.words store.old) from at size (S.Store.words store.new) }
     ensures count { length (S.Store.words store.new) ≡ length (S.Store.words store.old) }
     ensures rest { S.Store.rest store.new ≡ S.Store.rest store.old }
 {

@@ -1,7 +1,7 @@
 use Rattle.std.proofs.Common.{◌≡◌, ℕ, ◌+◌, ◌-◌, length, refl, ap, ◌∙◌, subst, arith, length-set}
-use Rattle.layout.specs.Released.{ClearsWithin, Links, ReleasesWithin}
-use Rattle.layout.proofs.Releases.{released_deep, released_none, released_row, released_short, released_table}
-use Rattle.layout.proofs.Releasing.{clears_more, clears_none}
+use Rattle.layout.specs.Released.{ClearsWithin, LinksAfter, ReleasesWithin}
+use Rattle.layout.proofs.Releases.{released_deep_within, released_none_within, released_row_within, released_short, released_table_within}
+use Rattle.layout.proofs.Releasing.{clears_more_within, clears_none_within}
 use Rattle.arrays.proofs.Levels.{none_left, some_left}
 use Rattle.arrays.proofs.releasing.+release_release_each.Goals as goal
 use Rattle.arrays.proofs.releasing.+release_release_each.Goals.{release-else-label, release-then-label}
@@ -13,7 +13,7 @@ release-returns-then-levels-eq0 g t c =
     let p = c.args.progress in
     record {
       releases = none_left (λ (n : ℕ). ReleasesWithin n ws at p.left p.last ws p.left p.last) c.args.levels c.word-code.result c.then-levels-eq0.either
-          (released_deep ws at p.left p.last) (λ d z. released_none d ws at _ c.word-code.ensures z p.left p.last);
+          (released_deep_within ws at p.left p.last) (λ d z. released_none_within d ws at _ c.word-code.ensures z p.left p.last);
       count = refl;
       rest = refl;
     }
@@ -42,7 +42,7 @@ release-returns g t c =
     let q = c.if-label.reached in
     let l = c.unpack-label.result in
     let first = c.saturating_sub-start.ensures in
-    let L : Links us q.last (l.first - 1) (l.length + 1) vs = rw (← first) c.link_gap_after.ensures.links in
+    let L : LinksAfter us q.last (l.first - 1) (l.length + 1) vs = rw (← first) c.link_gap_after.ensures.links in
     let long : length xs ≡ length us = ap length c.put.ensures.after ∙ length-set vs at 0 ∙ c.link_gap_after.ensures.count in
     let same = c.put.ensures.rest ∙ c.link_gap_after.ensures.rest in
     elim c.if-label.branch [
@@ -52,7 +52,7 @@ release-returns g t c =
           rw (w.store-is, w.reached-is) e.clears in
           record {
             releases = some_left (λ (n : ℕ). ReleasesWithin n ws at p.left p.last xs q.left c.saturating_sub-start.result) c.args.levels c.if-levels-eq0.false
-                (rw first (released_table _ ws at _ c.word-code.ensures l c.unpack-label.ensures.gives c.if-code-eq0.false p.left p.last
+                (rw first (released_table_within _ ws at _ c.word-code.ensures l c.unpack-label.ensures.gives c.if-code-eq0.false p.left p.last
                 w.if-label.true (omega (arith, c.if-progress-size.false)) us vs xs q.left q.last C L c.put.ensures.after));
             count = long ∙ ap (λ s. length (g.S.Store.words s)) w.store-is ∙ e.count;
             rest = same ∙ ap g.S.Store.rest w.store-is ∙ e.rest;
@@ -60,7 +60,7 @@ release-returns g t c =
       | release-else-label w ↦
           record {
             releases = some_left (λ (n : ℕ). ReleasesWithin n ws at p.left p.last xs q.left c.saturating_sub-start.result) c.args.levels c.if-levels-eq0.false
-                (rw (first, w.reached-is) (released_row _ ws at _ c.word-code.ensures l c.unpack-label.ensures.gives c.if-code-eq0.false p.left p.last
+                (rw (first, w.reached-is) (released_row_within _ ws at _ c.word-code.ensures l c.unpack-label.ensures.gives c.if-code-eq0.false p.left p.last
                 w.if-label.false (omega (arith, c.if-progress-size.false)) vs xs (rw (w.store-is, w.reached-is) at L) c.put.ensures.after));
             count = long ∙ ap (λ s. length (g.S.Store.words s)) w.store-is;
             rest = same ∙ ap g.S.Store.rest w.store-is;
@@ -81,13 +81,13 @@ release_each-returns g t c =
 
 pub release_each-loop-i-init : goal.release_each-loop-i-init
 release_each-loop-i-init g t c =
-    (clears_none c.args.levels (g.S.Store.words c.args.store.now) c.args.at c.args.progress.left c.args.progress.last, refl, refl)
+    (clears_none_within c.args.levels (g.S.Store.words c.args.store.now) c.args.at c.args.progress.left c.args.progress.last, refl, refl)
 
 pub release_each-loop-i-preserved : goal.release_each-loop-i-preserved
 release_each-loop-i-preserved g t c =
     let e = c.release-reached.ensures in
     let i = c.loop-i.invariant in (
-      clears_more c.args.levels _ _ _ c.args.at c.loop-i.i _ _ _ _ _ _ i.0 e.releases,
+      clears_more_within c.args.levels _ _ _ c.args.at c.loop-i.i _ _ _ _ _ _ i.0 e.releases,
       e.count ∙ i.1,
       e.rest ∙ i.2,
     )
