@@ -1,4 +1,7 @@
 // The start of a day: a store is joined from two banks, a keeper is made over it, measured, questioned and saved.
+ghost use Rattle.booking.specs.Traces.{Made, subscripts};
+ghost use Rattle.std.specs.Prelude.{◌≡◌, [], ◌∷◌, Ok, Err};
+
 use crate::report::{answer, tell};
 use crate::words::{show_gaps, show_words};
 use booking::{Refusal, Trace};
@@ -95,7 +98,9 @@ fn say_span<S: Store>(rt: &HostRuntime, keeper: &Keeper<S>, trace: &Trace) -> io
 }
 
 /// The place of one element under a name.
-pub fn element_of(name: u64, subscript: i32) -> Result<Trace, Refusal> {
+pub fn element_of(name: u64, subscript: i32) -> Result<Trace, Refusal>
+    ensures { elim result [ Ok t ↦ (t.name ≡ name) × (subscripts t ≡ subscript ∷ []) | Err e ↦ Made name (Err e) ] }
+{
     match Trace::new(name)?.down(subscript) {
         Ok(deeper) => Ok(deeper),
         Err(back) => Err(back.0),
