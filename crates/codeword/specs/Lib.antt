@@ -1,2 +1,3 @@
 pub mod Codeword
 pub mod Lawful
+pub mod Heads

@@ -1,4 +1,4 @@
-// Codewords: the label of a block, as fields and as one word.
+// Codewords, the labels of blocks, and the heads of gaps: as fields and as one word.
 #![tactic(auto)]
 
 ghost use Rattle.std.specs.Prelude.{◌≡◌, ◌^◌, ◌<◌, Decides};
@@ -6,8 +6,16 @@ ghost use Rattle.codeword.specs.Codeword.{InWidth, packed, unpacked, Packs};
 ghost use Rattle.codeword.specs.Lawful.{lawful};
 
 mod bits;
+mod head;
 
 use bits::{digit, field, signed, unsigned};
+pub use head::Head;
+
+/// One more than the largest address or length: a word has 18 bits for either.
+pub const FIELD: u64 = 262144;
+
+/// The highest type number of what a block holds.
+pub const LAST_TYPE: u8 = 2;
 
 /// The fields of a codeword, which labels a block; the word 0 labels nothing.
 #[derive(Clone, Copy, PartialEq, Eq, Debug)]
@@ -26,10 +34,13 @@ pub struct Codeword {
     pub r: bool,
     /// The digit s.
     pub s: bool,
-    /// The type number of what the block holds, below 4.
+    /// The type number of what the block holds, below 4. It is no enum of the kinds, since every word unpacks, also one of type 3,
+    /// which no block has.
     pub kind: u8,
 }
 
+// The readings of a word have names and are no `From`, since a word is read as a codeword, a head, an item or an address; so has each
+// writing, which of `pack` may answer none.
 impl Codeword {
     /// The fields that a word holds.
     pub fn unpack(word: u64) -> Codeword
@@ -50,6 +61,7 @@ impl Codeword {
     }
 
     /// The word that holds the fields; none where a field is too large for its bits.
+    #[tactic(auto, using(crate::proofs::Packing::unpacked_packed))]
     pub fn pack(self) -> Option<u64>
         ensures { Packs self result }
     {
@@ -60,7 +72,7 @@ impl Codeword {
     fn fits(self) -> bool
         ensures { Decides result (InWidth self) }
     {
-        self.first < 1 << 18 && self.length < 1 << 18 && self.kind < 4
+        self.first < FIELD && self.length < FIELD && self.kind < 4
     }
 
     // The word that holds the fields.
@@ -91,5 +103,5 @@ pub fn is_lawful(word: u64) -> bool
         return false;
     }
     let c = Codeword::unpack(word);
-    !c.p && !c.q && !c.s && c.length >= 1 && c.kind <= 2 && (!c.r || c.kind == 0)
+    !c.p && !c.q && !c.s && c.length >= 1 && c.kind <= LAST_TYPE && (!c.r || c.kind == 0)
 }
