@@ -1,4 +1,5 @@
 pub mod Refusals
 pub mod Traces
 pub mod Kinds
+pub mod Shapes
 pub mod Bookings

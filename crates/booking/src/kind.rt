@@ -1,7 +1,7 @@
 ghost use Rattle.std.specs.Prelude.{◌≡◌, ℕ, ◌^◌, ◌<◌};
 
 /// What the words of a data block mean. A kind has a type number, and turns an item into a word and a word into an item; each
-/// turning undoes the other.
+/// turning undoes the other. It is no pair of `From`, since items are also numbers, whose `From` is not ours to write.
 pub trait Kind {
     /// What a word of the block means.
     type Item: Copy;
@@ -9,18 +9,14 @@ pub trait Kind {
     /// The type number of the blocks that hold such items.
     const TYPE: u64;
 
-    // The type number, for contracts.
-    ghost number: { ℕ };
+    // The same, for contracts.
+    ghost TYPE: { ℕ };
 
     // The word of an item.
     ghost word: { Self.Item → ℕ };
 
     // The item that a word means.
     ghost item: { ℕ → Self.Item };
-
-    /// The type number.
-    fn type_number() -> u64
-        ensures { result ≡ number };
 
     /// The word of an item. It means that item again.
     fn to_word(x: Self::Item) -> u64

@@ -26,17 +26,13 @@ impl Kind for Words {
 
     const TYPE: u64 = 0;
 
-    ghost number = { 0 };
+    ghost TYPE = { 0 };
 
     ghost word = { λ n. n };
 
     ghost item = { λ n. n };
 
     ghost back = { Prim.search rules };
-
-    fn type_number() -> u64 {
-        Self::TYPE
-    }
 
     fn to_word(x: u64) -> u64 {
         x
@@ -52,17 +48,13 @@ impl Kind for Amounts {
 
     const TYPE: u64 = 1;
 
-    ghost number = { 1 };
+    ghost TYPE = { 1 };
 
     ghost word = { amount_word };
 
     ghost item = { amount_item };
 
     ghost back = { Prim.search rules };
-
-    fn type_number() -> u64 {
-        Self::TYPE
-    }
 
     fn to_word(x: i64) -> u64 {
         x.cast_unsigned()
@@ -78,17 +70,13 @@ impl Kind for Vouchers {
 
     const TYPE: u64 = 2;
 
-    ghost number = { 2 };
+    ghost TYPE = { 2 };
 
     ghost word = { voucher_word };
 
     ghost item = { voucher_item };
 
     ghost back = { Prim.search rules };
-
-    fn type_number() -> u64 {
-        Self::TYPE
-    }
 
     fn to_word(x: Voucher) -> u64 {
         ((x.days as u64) << 32) + x.number as u64

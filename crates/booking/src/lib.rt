@@ -4,9 +4,11 @@
 mod kind;
 mod kinds;
 mod refusal;
+mod shape;
 mod trace;
 
 pub use kind::{Kind, item_again, word_again};
 pub use kinds::{Amounts, Voucher, Vouchers, Words};
 pub use refusal::Refusal;
-pub use trace::Trace;
+pub use shape::Shape;
+pub use trace::{NAMES, Trace};

@@ -2,8 +2,12 @@ ghost use Rattle.std.specs.Prelude.{◌≡◌, ◌-◌, ◌≤◌, length, drop,
 
 mod steps;
 
-/// A name, 1 to 64, and at most three subscripts; those not used are 0. A trace is moved and never copied.
-#[derive(Drop)]
+/// How many names there are.
+pub const NAMES: u64 = 64;
+
+/// A name, 1 to 64, and at most three subscripts. A trace is moved and never copied. Its subscripts are an array and a count, and no vector
+/// of fixed capacity, since it is a rule that those not used are 0, and a vector has none to say it of.
+#[derive(Debug, Drop)]
 pub struct Trace {
     name: u8,
     depth: u8,

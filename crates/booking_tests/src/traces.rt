@@ -3,7 +3,8 @@ ghost use Rattle.booking.specs.Traces.{Made, subscripts};
 
 use booking::{Refusal, Trace};
 
-// Stands for a booking, which is lent the trace: it answers the name and how many subscripts there are.
+// Stands for a booking, which is lent the trace: it answers the name and how many subscripts there are, a pair that a test compares
+// at once, as do the two below.
 fn booked(trace: &Trace) -> (u8, usize)
     ensures { result ≡ (trace.now.name, length (subscripts trace.now)) }
 {

@@ -3,6 +3,8 @@ ghost use Rattle.std.specs.Prelude.{◌≡◌};
 
 use super::Refusal;
 
+// The numbers are how refusals are known outside the program, and a number alone would lose the step: so they are no `as u8`, and both
+// are told as a pair of plain values.
 impl Refusal {
     /// The number by which the refusal is known, and on the walk the step.
     pub fn told(&self) -> (u8, Option<u8>)

@@ -1,7 +1,7 @@
 ghost use Rattle.std.specs.Prelude.{◌≡◌, ◌<◌, slice_set};
 ghost use Rattle.booking.specs.Traces.{Made, Deeper, subscripts};
 
-use super::Trace;
+use super::{NAMES, Trace};
 use crate::refusal::Refusal;
 
 // The subscripts, with one put at a place.
@@ -18,7 +18,7 @@ impl Trace {
     pub fn new(name: u64) -> Result<Trace, Refusal>
         ensures { Made name result }
     {
-        if name < 1 || name > 64 {
+        if name < 1 || name > NAMES {
             return Err(Refusal::UnknownName);
         }
         Ok(Trace {
@@ -28,7 +28,7 @@ impl Trace {
         })
     }
 
-    /// One subscript deeper. The trace is used up; refused, it is handed back.
+    /// One subscript deeper. The trace is used up; refused, it is handed back, in a pair from which `?` takes the refusal.
     pub fn down(self, subscript: i32) -> Result<Trace, (Refusal, Trace)>
         ensures { Deeper self subscript result }
     {
