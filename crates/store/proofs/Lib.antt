@@ -3,3 +3,4 @@ pub mod Fronts
 pub mod Bytes
 pub mod Copies
 pub mod Zeroed
+pub mod Zipped

@@ -1,14 +1,9 @@
 -- What a list holds once some of its words are 0, place by place.
-use Rattle.std.proofs.Common.{◌≡◌, ℕ, zero, suc, ◌+◌, ◌-◌, ◌<◌, ◌≤◌, min, List, ◌++◌, length, get_or, take, drop, replicate, sym, refl, ap, ◌∙◌, inl, inr, append_assoc, arith, length-append, length-drop, length-take}
+use Rattle.std.proofs.Common.{◌≡◌, ℕ, ◌+◌, ◌-◌, ◌<◌, ◌≤◌, min, List, ◌++◌, length, get_or, take, drop, replicate, sym, ap, ◌∙◌, inl, inr, append_assoc, arith, length-append, length-drop, length-take}
 use lib.ListN.{length-replicate}
-use Rattle.std.proofs.lemmas.List.{get_or_append_left, get_or-append_right, get_or-drop, get_or_past, get_or-take}
+use Rattle.std.proofs.lemmas.List.{get_or-replicate, get_or_append_left, get_or-append_right, get_or-drop, get_or_past, get_or-take}
 use Rattle.std.proofs.lemmas.Bool.{cases_lt}
 use Rattle.store.specs.Edits.{zeroed, zeros}
-
-getD_zeros : (n k : ℕ) → ◌≡◌ {A = ℕ} (get_or (replicate n 0) k 0) 0
-getD_zeros zero k = refl
-getD_zeros (suc n) zero = refl
-getD_zeros (suc n) (suc k) = getD_zeros n k
 
 module _ (ws : List ℕ) (from n : ℕ) where
   abbrev m : ℕ
@@ -53,6 +48,6 @@ module _ (ws : List ℕ) (from n : ℕ) where
         | inl b ↦
             behind k h b
             ∙ get_or_append_left (replicate m 0) (drop (from + m) ws) 0 (k - from) (simp length-replicate (omega arith))
-            ∙ getD_zeros m (k - from)
+            ∙ get_or-replicate m (k - from) 0 0 (omega arith)
         | inr b ↦ past k b
       ]

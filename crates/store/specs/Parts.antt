@@ -1,5 +1,9 @@
 -- Two lists of words in a row: what each part is of both.
-use Rattle.std.specs.Prelude.{◌≡◌, ℕ, ◌-◌, ◌<◌, ◌≤◌, List, length, slice_set}
+use Rattle.std.specs.Prelude.{◌≡◌, ℕ, ◌≤◌, List, length, Ok, Err, Result, slice_set}
+use Rattle.booking.specs.declared.refusal.Refusal.{Refusal}
+use Rattle.booking.specs.declared.refusal.Refusal.TheVariants.{OutsideStore}
+use Rattle.store.specs.declared.joined.Place.{Place}
+use Rattle.store.specs.declared.joined.Place.TheVariants.{InFirst, InSecond}
 use Rattle.store.specs.Answers.{get_answer, set_answer}
 use Rattle.store.specs.Words.{joined_words, joined_beyond}
 
@@ -17,9 +21,8 @@ pub record Second (xs ys : List ℕ) (i j : ℕ) : Type 0 where
   pub after : (w : ℕ) → joined_words xs (slice_set ys i w) ≡ slice_set (joined_words xs ys) j w
   pub rest : (w : ℕ) → joined_beyond xs (slice_set ys i w) ≡ joined_beyond xs ys
 
--- of both `count` words are counted, and a write past them changes none; the second begins at n
-pub record Row (xs ys : List ℕ) (count n : ℕ) : Type 0 where
-  pub all : count ≡ length (joined_words xs ys)
-  pub past : (at w : ℕ) → count ≤ at → slice_set (joined_words xs ys) at w ≡ joined_words xs ys
-  pub first : (at : ℕ) → at < count → at < n → First xs ys at
-  pub second : (at : ℕ) → at < count → n ≤ at → Second xs ys (at - n) at
+-- where address `at` of both lies: past them, so that it is refused; in the first; or in the second
+abbrev pub Lies : List ℕ → List ℕ → ℕ → Result Place Refusal → Type 0
+Lies xs ys at (Err r) = (length (joined_words xs ys) ≤ at) × (r ≡ OutsideStore at)
+Lies xs ys at (Ok (InFirst i)) = (i ≡ at) × First xs ys i
+Lies xs ys at (Ok (InSecond i)) = Second xs ys i at

@@ -7,10 +7,7 @@ use crate::store::Store;
 pub fn word<S: Store>(store: &S, at: u64) -> u64
     ensures { result ≡ slice_index (S.Store.words store.now) at }
 {
-    match store.get(at) {
-        Ok(word) => word,
-        Err(_) => 0,
-    }
+    store.get(at).unwrap_or(0)
 }
 
 /// Replaces the word at an address, and does nothing past the end.

@@ -1,5 +1,5 @@
 ghost use Rattle.store.specs.Members.{row_counted, row_fit};
-ghost use Rattle.store.specs.Parts.{Row};
+ghost use Rattle.store.specs.Parts.{Lies};
 ghost use Rattle.store.specs.Rests.{joined_rest};
 ghost use Rattle.store.specs.Words.{joined_beyond, joined_words};
 
@@ -13,12 +13,27 @@ pub struct Joined<A, B> {
     pub second: B,
 }
 
-/// How many words two stores in a row count, and how many words the first has.
-fn both_counts<A: Store, B: Store>(first: &A, second: &B) -> (u64, u64)
-    ensures { Row (A.Store.words first.now) (B.Store.words second.now) result.0 result.1 }
-{
-    let n = first.count();
-    ((n + second.count()).min(MOST), n)
+/// In which of two stores in a row an address lies, and its address there.
+#[derive(Drop)]
+enum Place {
+    InFirst(u64),
+    InSecond(u64),
+}
+
+impl<A: Store, B: Store> Joined<A, B> {
+    /// Where an address lies.
+    fn place(&self, at: u64) -> Result<Place, Refusal>
+        ensures { Lies (A.Store.words self.now.first) (B.Store.words self.now.second) at result }
+    {
+        let n = self.first.count();
+        if at >= self.count() {
+            Err(Refusal::OutsideStore(at))
+        } else if at < n {
+            Ok(Place::InFirst(at))
+        } else {
+            Ok(Place::InSecond(at - n))
+        }
+    }
 }
 
 impl<A: Store, B: Store> Store for Joined<A, B> {
@@ -30,29 +45,22 @@ impl<A: Store, B: Store> Store for Joined<A, B> {
 
     ghost rest = { λ s. joined_rest (joined_beyond (A.Store.words s.first) (B.Store.words s.second)) (A.Store.rest s.first) (B.Store.rest s.second) };
 
+    #[tactic(auto, using(crate::specs::Members::length_row))]
     fn count(&self) -> u64 {
-        both_counts(&self.first, &self.second).0
+        (self.first.count() + self.second.count()).min(MOST)
     }
 
     fn get(&self, at: u64) -> Result<u64, Refusal> {
-        let (count, n) = both_counts(&self.first, &self.second);
-        if at >= count {
-            Err(Refusal::OutsideStore(at))
-        } else if at < n {
-            self.first.get(at)
-        } else {
-            self.second.get(at - n)
+        match self.place(at)? {
+            Place::InFirst(i) => self.first.get(i),
+            Place::InSecond(i) => self.second.get(i),
         }
     }
 
     fn set(&mut self, at: u64, word: u64) -> Result<(), Refusal> {
-        let (count, n) = both_counts(&self.first, &self.second);
-        if at >= count {
-            Err(Refusal::OutsideStore(at))
-        } else if at < n {
-            self.first.set(at, word)
-        } else {
-            self.second.set(at - n, word)
+        match self.place(at)? {
+            Place::InFirst(i) => self.first.set(i, word),
+            Place::InSecond(i) => self.second.set(i, word),
         }
     }
 }

@@ -2,6 +2,7 @@
 #![tactic(auto)]
 
 mod access;
+mod bank;
 mod bulk;
 mod byte_bank;
 mod joined;
@@ -9,6 +10,7 @@ mod store;
 mod word_bank;
 
 pub use access::{put, word};
+pub use bank::{Bank, Lendable};
 pub use bulk::{clear, copy_in, copy_out};
 pub use byte_bank::ByteBank;
 pub use joined::Joined;

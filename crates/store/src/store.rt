@@ -5,7 +5,7 @@ ghost use Rattle.store.specs.Words.{Fit, most};
 
 use booking::Refusal;
 
-/// The most words that a store counts.
+/// The most words that a store counts, as many as 18 bits number.
 pub const MOST: u64 = 262144;
 
 /// A store means a list of words.
@@ -19,7 +19,8 @@ pub trait Store {
     // Every word has 64 bits: each make shows it.
     ghost fits: { (s : Self) → Fit (words s) };
 
-    // What lies past the words, and who lent it: no call changes it.
+    // What lies past the words, and who lent it: no call changes it. Each says so itself, and that the count stays, since it speaks of the
+    // store before and after, and an invariant of one store alone.
     ghost rest: { Self → Rest };
 
     /// How many words there are.

@@ -22,14 +22,6 @@ mod tests {
     use booking::Refusal;
     use store::{ByteBank, Joined, Store, WordBank, clear, copy_in, copy_out, put, word};
 
-    // The address that a call was refused for.
-    fn refused<T: Drop>(answer: Result<T, Refusal>) -> Option<u64> {
-        match answer {
-            Err(Refusal::OutsideStore(at)) => Some(at),
-            _ => None,
-        }
-    }
-
     #[test]
     fn words_then_bytes(rt: HostRuntime) {
         let mut words = [1u64, 2, 3];
@@ -40,13 +32,13 @@ mod tests {
                 second: ByteBank { lent: &mut bytes },
             };
             assert_eq!(rt; store.count(), 5);
-            assert_eq!(rt; store.get(2).ok(), Some(3));
-            assert_eq!(rt; store.get(3).ok(), Some(0x0707070707070707));
-            assert_eq!(rt; store.set(4, 0x0102030405060708).ok(), Some(()));
-            assert_eq!(rt; store.get(4).ok(), Some(0x0102030405060708));
-            assert_eq!(rt; store.set(0, 9).ok(), Some(()));
-            assert_eq!(rt; refused(store.get(5)), Some(5));
-            assert_eq!(rt; refused(store.set(7, 9)), Some(7));
+            assert_eq!(rt; store.get(2), Ok(3));
+            assert_eq!(rt; store.get(3), Ok(0x0707070707070707));
+            assert_eq!(rt; store.set(4, 0x0102030405060708), Ok(()));
+            assert_eq!(rt; store.get(4), Ok(0x0102030405060708));
+            assert_eq!(rt; store.set(0, 9), Ok(()));
+            assert_eq!(rt; store.get(5), Err(Refusal::OutsideStore(5)));
+            assert_eq!(rt; store.set(7, 9), Err(Refusal::OutsideStore(7)));
         }
         assert_eq!(rt; words, [9, 2, 3]);
         assert_eq!(rt;
@@ -83,8 +75,8 @@ mod tests {
             second: ByteBank { lent: &mut bytes },
         };
         assert_eq!(rt; store.count(), 0);
-        assert_eq!(rt; refused(store.get(0)), Some(0));
-        assert_eq!(rt; refused(store.set(0, 1)), Some(0));
+        assert_eq!(rt; store.get(0), Err(Refusal::OutsideStore(0)));
+        assert_eq!(rt; store.set(0, 1), Err(Refusal::OutsideStore(0)));
         clear(&mut store, 0, 9);
         assert_eq!(rt; bytes, [1; 7]);
     }
@@ -102,7 +94,7 @@ mod tests {
         {
             let mut store = WordBank { lent: &mut words };
             assert_eq!(rt; store.count(), 262144);
-            assert_eq!(rt; refused(store.set(262144, 1)), Some(262144));
+            assert_eq!(rt; store.set(262144, 1), Err(Refusal::OutsideStore(262144)));
             clear(&mut store, 262143, 2);
         }
         assert_eq!(rt; words[262143], 0);
