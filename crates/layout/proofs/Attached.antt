@@ -79,9 +79,6 @@ module _ (xs : List ℕ) (B : Arrangement) (t : Trace) (n start at depth : ℕ) 
         hits-++ y st.before (cell at none ∷ st.after),
       )
 
-  room_covers : (k : ℕ) → k < n + 1 → covers (start + k) (run start (n + 1)) ≡ 1
-  room_covers k h = covers_yes (start + k) start (n + 1) (omega arith) (omega arith)
-
   start_covers : covers start (run start (n + 1)) ≡ 1
   start_covers = covers_yes start start (n + 1) (omega arith) (omega arith)
 

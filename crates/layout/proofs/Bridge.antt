@@ -1,4 +1,5 @@
 -- A codeword that shows a placed tree holds that tree; and what leaves a tree's own words alone leaves it shown.
+use Rattle.std.proofs.lemmas.List.{map-id}
 use Rattle.std.proofs.Common.{◌≡◌, ℕ, zero, suc, ◌+◌, ◌^◌, ◌<◌, ◌≤◌, Bool, true, false, cond, eqb, List, [], ◌∷◌, map, length, get_or, take, drop, ℤ, sym, refl, ap, ◌∙◌, add-one, arith, eqb→eq, drop-cons}
 use lib.Signed.{mag}
 use lib.Dec.{not_T}
@@ -23,10 +24,6 @@ module _ {X Y : Type 0} (ws : List ℕ) (f : ℕ → Y) (g : X → Y) where
       ap (λ (us : List ℕ). map f (take (suc (length xs)) us)) (drop-cons ws a 0 (omega arith))
       ∙ ap (λ (y : Y). y ∷ map f (take (length xs) (drop (suc a) ws))) e.0
       ∙ ap (λ (ys : List Y). g x ∷ ys) t
-
-pub map_id : {X : Type 0} (xs : List X) → map (λ x. x) xs ≡ xs
-map_id [] = refl
-map_id (x ∷ xs) = ap (λ ys. x ∷ ys) (map_id xs)
 
 pub along_imp : {X : Type 0} (P Q R : ℕ → X → Type 0) → ((y : ℕ) (x : X) → P y x → Q y x → R y x) → (a : ℕ) (xs : List X) → Along P a xs → Along Q a xs → Along R a xs
 along_imp P Q R h a [] p q = tt
@@ -63,7 +60,7 @@ module _ (ws : List ℕ) (small : length ws ≤ 2 ^ 18) where
   shown_held (suc d) a (Data x b t vs) g s =
       held_data d (get_or ws a 0) (x + 1) b false t (length vs) g.0 (omega arith) g.2 g.3 g.4 s.0
       ∙ ap (λ (us : List ℕ). Row b t us)
-      (sym (map_id (take (length vs) (drop (x + 1) ws))) ∙ along_map ws (λ w. w) (λ w. w) (x + 1) vs g.2 s.2 ∙ map_id vs)
+      (sym (map-id (take (length vs) (drop (x + 1) ws))) ∙ along_map ws (λ w. w) (λ w. w) (x + 1) vs g.2 s.2 ∙ map-id vs)
   shown_held (suc d) a (Codes x b ps) g s =
       held_data d (get_or ws a 0) (x + 1) b true 0 (length ps) g.0 (omega arith) g.2 g.3 (omega arith) s.0
       ∙ ap (λ (us : List (Tree d)). Table b us)

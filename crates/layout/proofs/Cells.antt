@@ -1,4 +1,5 @@
 -- The live words one by one, each with what it says: the view for the loops that move words.
+use Rattle.std.proofs.lemmas.List.{map-id}
 use Rattle.std.proofs.Common.{◌≡◌, ℕ, zero, suc, ◌+◌, ◌<◌, true, false, List, [], ◌∷◌, ◌++◌, map, length, get_or, sym, refl, ap, ◌∙◌, arith}
 use mathlib.Core.List.{map-append}
 use lib.ListN.{length-map}
@@ -72,10 +73,6 @@ module _ (to : ℕ → ℕ) {X : Type 0} (f : ℕ → X → List Cell) (g : X �
       ∙ ap (λ (k : ℕ). map (carry to) (cells_along f k xs)) (omega arith))
       ∙ sym (map-append (carry to) (f (s + j) x) (cells_along f (s + j + 1) xs))
 
-map_id : {X : Type 0} (xs : List X) → map (λ x. x) xs ≡ xs
-map_id [] = refl
-map_id (x ∷ xs) = ap (λ ys. x ∷ ys) (map_id xs)
-
 no_pieces : (P : Piece → Type 0) (us : List ℕ) → Each P (concat (map (λ (u : ℕ). []) us))
 no_pieces P [] = tt
 no_pieces P (u ∷ us) = no_pieces P us
@@ -88,7 +85,7 @@ cells_move to zero a p e = refl
 cells_move to (suc d) a Vacant e = refl
 cells_move to (suc d) a (Data s b t us) e =
     ap (λ (cs : List Cell). record { at = to a; says = label (to s) (length us) b false t } ∷ record { at = to s; says = back (to a) } ∷ cs)
-    (ap (λ (vs : List ℕ). cells_along datum_at (to s + 1) vs) (sym (map_id us))
+    (ap (λ (vs : List ℕ). cells_along datum_at (to s + 1) vs) (sym (map-id us))
     ∙ along_move to datum_at (λ v. v) (λ v. []) (λ y v k. refl) s 1 us (λ k l. e.0 k (omega arith)) (no_pieces (Rigid to) us))
 cells_move to (suc d) a (Codes s b ps) e =
     ap (λ (n : ℕ). record { at = to a; says = label (to s) n b true 0 } ∷ record { at = to s; says = back (to a) }

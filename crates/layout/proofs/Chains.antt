@@ -2,7 +2,8 @@
 use Rattle.std.proofs.Common.{◌≡◌, ℕ, zero, suc, ◌+◌, ◌*◌, ◌^◌, ◌<◌, ◌≤◌, ◌≢◌, ◌⊎◌, List, [], ◌∷◌, ◌++◌, length, get_or, set, sym, refl, ap, ◌∙◌, inl, inr, arith}
 use Rattle.std.proofs.lemmas.List.{get_or-set_same, get_or-set_other}
 use Rattle.layout.specs.Arrangement.{Piece}
-use Rattle.layout.specs.Chains.{Chained, Rising, head_word, last_of, next_at, size_at}
+use Rattle.layout.specs.Chains.{Chained, Rising, last_of, next_at, size_at}
+use Rattle.codeword.specs.Heads.{head_word}
 use Rattle.layout.specs.Gaps.{a_gap}
 use Rattle.layout.specs.Holds.{Chain}
 use Rattle.layout.specs.Sound.{Each, covered}

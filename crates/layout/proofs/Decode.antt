@@ -1,4 +1,5 @@
 -- The words tell the arrangement: the one that is read off them is the sound one that they show.
+use Rattle.std.proofs.lemmas.List.{map-id}
 use Rattle.std.proofs.Common.{◌≡◌, ℕ, zero, suc, ◌+◌, ◌-◌, ◌*◌, ◌^◌, ◌<◌, ◌≤◌, Bool, true, false, cond, eqb, List, [], ◌∷◌, map, length, get_or, take, drop, ℤ, sym, refl, ap, ◌∙◌, subst, arith, eqb→eq}
 use lib.Signed.{mag}
 use lib.Dec.{not_T}
@@ -13,7 +14,7 @@ use Rattle.layout.specs.Words.{first_of, labelling, total}
 use Rattle.layout.proofs.Cover.{is_false, each_both, each_left, each_right, each_start, each_last, lies, below, among, above}
 use Rattle.layout.proofs.Order.{Some, blocks_some, ordered}
 use Rattle.layout.proofs.Refine.{tiles_total}
-use Rattle.layout.proofs.Bridge.{Fits, along_map, along_imp, along_each, map_id, shown_held}
+use Rattle.layout.proofs.Bridge.{Fits, along_map, along_imp, along_each, shown_held}
 use Rattle.codeword.proofs.Packing.{unpacked_packed}
 
 -- ── Every piece lies in S ──────────────────────────────────────────────
@@ -77,7 +78,7 @@ module _ (ws : List ℕ) (small : length ws ≤ 2 ^ 18) where
       placed_label d (get_or ws a 0) (x + 1) b false t (length vs) g.0 (omega (arith, g.1)) g.2 g.3 g.4 s.0
       ∙ ap (λ (k : ℕ). Data k b t (take (length vs) (drop (x + 1) ws))) (omega arith)
       ∙ ap (λ (us : List ℕ). Data x b t us)
-      (sym (map_id (take (length vs) (drop (x + 1) ws))) ∙ along_map ws (λ w. w) (λ w. w) (x + 1) vs g.2 s.2 ∙ map_id vs)
+      (sym (map-id (take (length vs) (drop (x + 1) ws))) ∙ along_map ws (λ w. w) (λ w. w) (x + 1) vs g.2 s.2 ∙ map-id vs)
   shown_placed (suc d) a (Codes x b ps) g s =
       placed_label d (get_or ws a 0) (x + 1) b true 0 (length ps) g.0 (omega (arith, g.1)) g.2 g.3 (omega arith) s.0
       ∙ ap (λ (k : ℕ). Codes k b (map (placed_of d ws) (take (length ps) (drop (x + 1) ws)))) (omega arith)
@@ -85,7 +86,7 @@ module _ (ws : List ℕ) (small : length ws ≤ 2 ^ 18) where
       (along_map ws (placed_of d ws) (λ p. p) (x + 1) ps g.2
       (along_imp (Shows d ws) (λ y p. Fits (length ws) d p) (λ y p. placed_of d ws (get_or ws y 0) ≡ p)
       (λ y p h k. shown_placed d y p k h) (x + 1) ps s.2 (along_each (Fits (length ws) d) (x + 1) ps g.4))
-      ∙ map_id ps)
+      ∙ map-id ps)
 
 -- ── The chain ──────────────────────────────────────────────────────────
 
@@ -149,7 +150,7 @@ unfolding arrangement_of
 told ws A o s =
     let small : length ws ≤ 2 ^ 18 = omega (arith, s.count, o.most) in
     let names : map (placed_of 4 ws) (take 64 (drop 1 ws)) ≡ A.names =
-    names_read ws A o s (placed_of 4 ws) (λ p. p) (shown_placed ws small 4) ∙ map_id A.names in
+    names_read ws A o s (placed_of 4 ws) (λ p. p) (shown_placed ws small 4) ∙ map-id A.names in
     let inside = gaps_inside A o.tiled in
     let head : field 18 18 (get_or ws 0 0) ≡ first_of A.gaps =
     ap (field 18 18) s.header

@@ -39,11 +39,3 @@ module _ (w : ℕ) (i : ℤ) (j : ℕ) where
     gone_table q =
         cond-false _ _ _ (ne_eqb w 0 some) ∙ cond-true _ _ _ (sym (ap (λ (z : Codeword). z.r) is) ∙ q)
         ∙ sym (ap (λ (c : Codeword). and_then (chosen c i j) (λ k. Ok (c.first + k))) is)
-
-    module _ (table : c.r ≡ true) (z : ℤ) (same : z ≡ i) where
-      -- a subscript within the block, and one outside it
-      pub gone_to : (k : ℕ) → Ok k ≡ chosen c z j → Ok (c.first + k) ≡ gone_down w i j
-      gone_to k e = sym (gone_table table ∙ through_ok _ _ k (e ∙ ap (λ (x : ℤ). chosen c x j) same))
-
-      pub gone_off : (r : Refusal) → Err r ≡ chosen c z j → Err r ≡ gone_down w i j
-      gone_off r e = sym (gone_table table ∙ through_err _ _ r (e ∙ ap (λ (x : ℤ). chosen c x j) same))

@@ -21,7 +21,7 @@ use Rattle.layout.proofs.Close.{shift, all_move}
 use Rattle.layout.proofs.Decode.{total_within}
 use Rattle.layout.proofs.Change.{At, AtTrace, named, name_in, at_imp, at_look, at_out, at_most_1, weaker, trace_sound}
 use Rattle.layout.proofs.Kept.{each_replicate, each_take, each_drop, each_map, move_good, cov_none, cov-++, gap_covered, gap_sized, gap_climbs, closed_up_sound}
-use Rattle.layout.proofs.Taken.{at_names_move}
+use Rattle.layout.proofs.Taken.{at_names_move, vacant_good, vacant_pieces}
 use Rattle.layout.proofs.Doors.{Legal}
 
 -- ── A block among the blocks ───────────────────────────────────────────
@@ -224,14 +224,6 @@ abbrev end_of : (d : ℕ) → Spot (Placed d) → ℕ
 end_of d Vacant = 0
 end_of d (Data s b t ws) = s + 1 + length ws
 end_of d (Codes s b ps) = s + 1 + length ps
-
-vacant_pieces : (d : ℕ) → pieces d (vacant d) ≡ []
-vacant_pieces zero = refl
-vacant_pieces (suc d) = refl
-
-vacant_good : (d : ℕ) → Good d (vacant d)
-vacant_good zero = tt
-vacant_good (suc d) = tt
 
 module _ (i : ℤ) (n : ℕ) where
   grown_good : (d : ℕ) (q : Spot (Placed d)) → Good (suc d) q → Good (suc d) (grown i n d q)

@@ -19,7 +19,6 @@ pub mod Laws
 pub mod Made
 pub mod Shown
 pub mod Gone
-pub mod Walked
 pub mod Place
 pub mod Owed
 pub mod Bases
@@ -29,8 +28,6 @@ pub mod Runs
 pub mod Exchanges
 pub mod Swaps
 pub mod Labels
-pub mod Chosen
-pub mod Relabels
 pub mod Chains
 pub mod Live
 pub mod Step

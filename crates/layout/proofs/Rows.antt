@@ -23,7 +23,6 @@ use Rattle.layout.specs.Sound.{Sound}
 use Rattle.layout.specs.Walks.{and_then, chosen, walked}
 use Rattle.layout.specs.Words.{Cell, back, cells, cells_along, datum, datum_at, label, labelling}
 use Rattle.layout.proofs.Frame.{cell, wrote}
-use Rattle.layout.proofs.Gone.{through_ok}
 use Rattle.layout.proofs.Owed.{granted_now, granted_owes, place_owes}
 use Rattle.layout.proofs.Place.{Reached, Stands, along_get, booked, came, door_open, door_shut, replied, reply, shown_label, spread_at, subscripts_count}
 use Rattle.ledger.proofs.Signs.{element_lt}
@@ -204,12 +203,3 @@ module _ (ws : List ℕ) (h : Holds ws) (t : Trace) (kind : ℕ) (i : ℤ) where
         granted_owes ws h t (Write kind i w) Done us (write_granted ws h.arrangement t kind i few_words y left x w)
         (subst (λ (us : List ℕ). Displays us (rearranged t (Write kind i w) h.arrangement)) (sym is)
         (written ws h.arrangement t kind i few_words y left x h.sound h.shown w))
-
--- the code finds it in two steps, the second at a depth that it has asked for
-pub row_through : (ws : List ℕ) (t : Trace) (kind : ℕ) (i z : ℤ) → z ≡ i → (a w d : ℕ) (r : Result (ℕ × ℕ) Refusal) → Ok a ≡ walked ws 1 t.name (subscripts t)
-    → w ≡ get_or ws a 0 → d ≡ t.depth → r ≡ row_chosen w kind z (d + 1) → r ≡ row_found ws t kind i
-unfolding row_found
-row_through ws t kind i z q a w d r e is deep h =
-    h ∙ ap (λ (v : ℕ). row_chosen v kind z (d + 1)) is ∙ ap (λ (k : ℤ). row_chosen (get_or ws a 0) kind k (d + 1)) q
-    ∙ ap (λ (n : ℕ). row_chosen (get_or ws a 0) kind i (n + 1)) deep
-    ∙ sym (through_ok (walked ws 1 t.name (subscripts t)) (λ a. row_chosen (get_or ws a 0) kind i (t.depth + 1)) a e)

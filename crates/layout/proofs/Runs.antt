@@ -1,6 +1,6 @@
 -- A row of data words, written and read.
-use Rattle.std.proofs.Common.{◌≡◌, ℕ, suc, ◌+◌, ◌-◌, ◌^◌, ◌<◌, ◌≤◌, Bool, true, false, cond, not, eqb, ◌⊎◌, List, [], ◌∷◌, ◌++◌, length, get_or, take, drop, set, ℤ, Ok, Err, Result, sym, refl, ap, ◌∙◌, subst, inl, inr, append_assoc, add-zero, arith, length-append, length-drop, take-append-drop, length-take, ext_get_or}
-use Rattle.std.proofs.lemmas.List.{drop-drop, get_or-drop, get_or-take, take_all, take_more}
+use Rattle.std.proofs.Common.{◌≡◌, ℕ, suc, ◌+◌, ◌-◌, ◌^◌, ◌<◌, ◌≤◌, Bool, true, false, cond, not, eqb, ◌⊎◌, List, [], ◌∷◌, ◌++◌, length, get_or, take, drop, ℤ, Ok, Err, Result, sym, refl, ap, ◌∙◌, subst, inl, inr, append_assoc, add-zero, arith, length-append, length-drop, take-append-drop, length-take, ext_get_or}
+use Rattle.std.proofs.lemmas.List.{drop-drop, get_or-drop, get_or-take}
 use Rattle.std.proofs.lemmas.Bool.{or_left, or_right, or_from, eq-eqb, ne_eqb, lt-ltb, le-ltb}
 use Rattle.booking.specs.Bookings.{Done, RowRead, RowWrite, Words, granted, on, refused}
 use Rattle.booking.specs.Traces.{subscripts}
@@ -24,7 +24,7 @@ use Rattle.layout.proofs.Frame.{cell}
 use Rattle.layout.proofs.Hits.{here, hits}
 use Rattle.layout.proofs.Owed.{granted_now, granted_owes, place_owes}
 use Rattle.layout.proofs.Place.{along_get, booked, door_open, door_shut, replied, reply}
-use Rattle.layout.proofs.Rewritten.{rewrote, written-++}
+use Rattle.layout.proofs.Rewritten.{rewrote}
 use Rattle.layout.proofs.Rows.{Selected, element_inside, few_words, picked}
 use Rattle.ledger.proofs.Signs.{element_lt}
 
@@ -47,16 +47,6 @@ data_hits z a (x ∷ xs) (y ∷ ys) e = ap (λ (k : ℕ). here z a + k) (data_hi
 data_inside : (count a : ℕ) (xs : List ℕ) → a + length xs ≤ count → Each (λ c. c.at < count) (data_cells a xs)
 data_inside count a [] h = tt
 data_inside count a (x ∷ xs) h = (omega arith, data_inside count (a + 1) xs (omega arith))
-
--- the loop's step
-pub one_more : (ws us vs : List ℕ) (a k : ℕ) → k < length vs → us ≡ written (data_cells a (take k vs)) ws
-    → set us (a + k) (get_or vs k 0) ≡ written (data_cells a (take (k + 1) vs)) ws
-one_more ws us vs a k h e =
-    ap (λ (z : List ℕ). set z (a + k) (get_or vs k 0)) e
-    ∙ ap (λ (n : ℕ). set (written (data_cells a (take k vs)) ws) n (get_or vs k 0)) (omega (arith, length-take k vs))
-    ∙ sym (ap (λ (xs : List ℕ). written (data_cells a xs) ws) (take_more vs k 0 h)
-    ∙ ap (λ (cs : List Cell). written cs ws) (data-++ a (take k vs) (get_or vs k 0 ∷ []))
-    ∙ written-++ (data_cells a (take k vs)) (data_cells (a + length (take k vs)) (get_or vs k 0 ∷ [])) ws)
 
 module _ (ws : List ℕ) (A : Arrangement) (t : Trace) (kind : ℕ) (i : ℤ) (small : length ws ≤ 2 ^ 18) (y left : ℕ) (x : Selected ws A t kind i y left) (vs : List ℕ) where
   abbrev e : ℕ
@@ -190,6 +180,3 @@ module _ (ws : List ℕ) (h : Holds ws) (t : Trace) (kind : ℕ) (i z : ℤ) (q 
       → granted (Words us) ≡ (book (length ws) (held_trees ws) (on t (RowRead kind i n))).0
   row_read_done n some l us m each =
       sym (rows_granted ws h.arrangement t kind i (few_words ws h t kind i) y left x n some l us m each) ∙ replied ws h t (RowRead kind i n)
-
-pub whole_run : (ws us vs : List ℕ) (a k : ℕ) → length vs ≤ k → us ≡ written (data_cells a (take k vs)) ws → us ≡ written (data_cells a vs) ws
-whole_run ws us vs a k h e = e ∙ ap (λ (xs : List ℕ). written (data_cells a xs) ws) (take_all k vs h)

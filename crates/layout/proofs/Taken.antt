@@ -223,15 +223,15 @@ freed_total t A o =
 zeros : (n : ℕ) → length (replicate {A = ℕ} n 0) ≡ n
 zeros n = length-replicate n 0
 
+pub vacant_good : (d : ℕ) → Good d (vacant d)
+vacant_good zero = tt
+vacant_good (suc d) = tt
+
 new_good : (n : ℕ) (b : ℤ) (c : Bool) (ty s d : ℕ) (q : Spot (Placed d)) → 1 ≤ n → GoodBase b → ty ≤ 2 → Good (suc d) (new_spot n b c ty s d q)
 new_good n b true ty s d q h g l = (omega (arith, length-replicate n (vacant d)), g, each_replicate (Good d) n (vacant d) (vacant_good d))
-  where
-    vacant_good : (d : ℕ) → Good d (vacant d)
-    vacant_good zero = tt
-    vacant_good (suc d) = tt
 new_good n b false ty s d q h g l = (omega (arith, zeros n), g, l)
 
-vacant_pieces : (d : ℕ) → pieces d (vacant d) ≡ []
+pub vacant_pieces : (d : ℕ) → pieces d (vacant d) ≡ []
 vacant_pieces zero = refl
 vacant_pieces (suc d) = refl
 

@@ -56,10 +56,6 @@ module _ (d : ℕ) (ws : List ℕ) (at w : ℕ) (is : w ≡ get_or ws at 0) (lim
 
 -- ── Element after element ──────────────────────────────────────────────
 
-pub each_none : (d : ℕ) (ws : List ℕ) (a limit : ℕ) → WeighsEach d ws a 0 limit 0
-each_none d ws a limit [] gs n r h = refl
-each_none d ws a limit (p ∷ ps) gs n r h = absurd (omega arith)
-
 pub each_more : (d : ℕ) (ws : List ℕ) (a k limit n m : ℕ) → WeighsEach d ws a k limit n → Weighs d ws (a + k) (limit - n) m → WeighsEach d ws a (k + 1) limit (n + m)
 each_more d ws a k limit n m E F ps gs long r h =
     let f : Placed d → ℕ = λ p. W d (tree d p) in

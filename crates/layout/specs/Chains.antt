@@ -1,5 +1,5 @@
 -- The chain as the words show it, and a change of the chain that leaves all other words alone.
-use Rattle.std.specs.Prelude.{◌≡◌, ℕ, ◌+◌, ◌*◌, ◌%◌, ◌^◌, ◌≤◌, ◌⊎◌, List, [], ◌∷◌, length, slice_index, slice_index_or}
+use Rattle.std.specs.Prelude.{◌≡◌, ℕ, ◌+◌, ◌*◌, ◌^◌, ◌≤◌, ◌⊎◌, List, [], ◌∷◌, length, slice_index, slice_index_or}
 use Rattle.codeword.specs.Codeword.{field}
 use Rattle.layout.specs.Arrangement.{Piece}
 use Rattle.layout.specs.Holds.{Chain}
@@ -12,10 +12,6 @@ size_at ws a = field 0 18 (slice_index ws a)
 
 abbrev pub next_at : List ℕ → ℕ → ℕ
 next_at ws a = field 18 18 (slice_index ws a)
-
--- the word that says these two
-abbrev pub head_word : ℕ → ℕ → ℕ
-head_word size next = size % 2 ^ 18 + 2 ^ 18 * (next % 2 ^ 18)
 
 -- gaps of one word or more that ascend from a to e and do not overlap
 abbrev pub Rising : ℕ → List Piece → ℕ → Type 0

@@ -1,10 +1,22 @@
-// Where trees lie in a store, and what its words then are. The crate is definitions and their laws; each function stands for one law.
+// Where trees lie in a store, and what its words then are. The crate is definitions and their laws, each of which a function stands for,
+// and the few numbers of the layout that code needs.
 #![tactic(auto)]
 
 ghost use Rattle.layout.specs.Determined.{Determined};
 ghost use Rattle.layout.specs.Figures.{Figures};
 ghost use Rattle.layout.specs.Lawful.{Lawful};
 ghost use Rattle.layout.specs.Refines.{Refines};
+
+pub use booking::NAMES;
+
+/// The first address behind the header and the codewords of the names, which stand from address 1 on.
+pub const FIRST: u64 = 1 + NAMES;
+
+/// The fewest words that a keeper can be made over: those before the first address, and a block of one word with its back-reference.
+pub const LEAST: u64 = FIRST + 2;
+
+/// How many blocks can lie one below the other.
+pub const LEVELS: u8 = 4;
 
 /// A sound arrangement has one list of words, and words that hold together have one arrangement.
 pub fn words_tell_the_arrangement()
