@@ -1,7 +1,7 @@
--- One item more, read or written.
-use Rattle.std.proofs.Common.{◌≡◌, ℕ, ◌+◌, ◌<◌, ◌≢◌, List, map, length, get_or, set, sym, ap, ◌∙◌, arith, get_or-set_other, get_or-set_same, below_more}
+-- One item more, read.
+use Rattle.std.proofs.Common.{◌≡◌, ℕ, ◌+◌, ◌<◌, ◌≢◌, List, map, length, get_or, set, ap, ◌∙◌, arith, get_or-set_other, get_or-set_same, below_more}
 use lib.ListN.{length-map}
-use Rattle.std.proofs.lemmas.List.{get_or-map, map-set}
+use Rattle.std.proofs.lemmas.List.{map-set}
 
 module _ {X : Type 0} (f : X → ℕ) (xs : List X) (k : ℕ) (x : X) (h : k < length xs) where
   pub read_more : (ws : List ℕ) (at : ℕ) → f x ≡ get_or ws (at + k) 0 → ((m : ℕ) → m < k → get_or (map f xs) m 0 ≡ get_or ws (at + m) 0)
@@ -12,6 +12,3 @@ module _ {X : Type 0} (f : X → ℕ) (xs : List X) (k : ℕ) (x : X) (h : k < l
       below_more _ _
       (λ m l. let ne : m ≢ k = omega arith in way m ∙ get_or-set_other (map f xs) k m (f x) 0 ne ∙ before m l)
       (way k ∙ get_or-set_same (map f xs) k (f x) 0 long ∙ e)
-
-  pub item_word : x ≡ get_or xs k x → f x ≡ get_or (map f xs) k 0
-  item_word e = ap f e ∙ sym (get_or-map f xs k x 0 h)

@@ -9,7 +9,9 @@ use codeword::Codeword;
 use store::{Store, put, word};
 use walk::{go_down, walk};
 
-/// Writes a codeword at an address, and the address into the back-reference of its block.
+/// Writes a codeword at an address, and the address into the back-reference of its block. The codeword is at hand, and is not read back,
+/// as `placement` does when blocks move.
+#[tactic(auto, unfolding(layout::specs::Elements::relabelled))]
 fn relabel<S: Store>(store: &mut S, at: u64, code: u64)
     ensures after { S.Store.words store.new ≡ relabelled (S.Store.words store.old) at code }
     ensures count { length (S.Store.words store.new) ≡ length (S.Store.words store.old) }

@@ -1,5 +1,7 @@
+// Elements read and written, one or a row of them. The trace, the number and the subscript stay apart: a struct of them would be made
+// for one call, and taken apart in it. The number is no enum, since any may be asked for, and one that no block has is refused.
 ghost use Rattle.booking.specs.Bookings.{Read, RowRead, RowWrite, Write, on};
-ghost use Rattle.elements.specs.Rows.{UnlessGranted, read_of, row_of};
+ghost use Rattle.elements.specs.Rows.{UnlessGranted, read_of, row_of, run_found};
 ghost use Rattle.layout.specs.Booked.{Answers, Books};
 ghost use Rattle.layout.specs.Results.{done_of};
 ghost use Rattle.std.specs.Prelude.{◌≡◌, map, length};
@@ -38,6 +40,24 @@ pub fn write<S: Store, K: Kind>(
     Ok(())
 }
 
+/// Where a row of n data elements begins: n is not 0, and there are as many from the subscript on.
+#[tactic(auto, unfolding(crate::specs::Rows::run_found))]
+fn run<S: Store>(
+    store: &S,
+    trace: &Trace,
+    number: u64,
+    subscript: i32,
+    n: usize,
+) -> Result<u64, Refusal>
+    ensures { result ≡ run_found (S.Store.words store.now) trace.now number subscript n }
+{
+    let (at, left) = row(store, trace, number, subscript)?;
+    if n == 0 || n as u64 > left {
+        return Err(Refusal::BadLength);
+    }
+    Ok(at)
+}
+
 /// Copies as many data elements as the list has, from the subscript on, into the list. Refused, the list stays as it was.
 pub fn read_row<S: Store, K: Kind>(
     store: &S,
@@ -49,11 +69,8 @@ pub fn read_row<S: Store, K: Kind>(
     ensures booked { Answers (S.Store.words store.now) (on trace.now (RowRead number subscript (length items.old))) (row_of K.Kind.word result items.new) }
     ensures list { UnlessGranted result (items.new ≡ items.old) }
 {
-    let (at, left) = row(store, trace, number, subscript)?;
-    let n = items.len() as u64;
-    if n == 0 || n > left {
-        return Err(Refusal::BadLength);
-    }
+    let at = run(store, trace, number, subscript, items.len())?;
+    // By slice and index too: zipped with the addresses, `iter_mut` would leave nothing known of the list.
     for (k, item) in items.iter_mut().enumerate() {
         *item = K::from_word(word(store, at + k as u64));
     }
@@ -72,11 +89,8 @@ pub fn write_row<S: Store, K: Kind>(
     ensures count { length (S.Store.words store.new) ≡ length (S.Store.words store.old) }
     ensures rest { S.Store.rest store.new ≡ S.Store.rest store.old }
 {
-    let (at, left) = row(store, trace, number, subscript)?;
-    let n = items.len() as u64;
-    if n == 0 || n > left {
-        return Err(Refusal::BadLength);
-    }
+    let at = run(store, trace, number, subscript, items.len())?;
+    // By slice and index, as is asked for.
     for (k, item) in items.iter().enumerate() {
         put(store, at + k as u64, K::to_word(*item));
     }

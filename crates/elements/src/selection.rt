@@ -6,7 +6,10 @@ use codeword::Codeword;
 use store::{Store, word};
 use walk::{choose, walk};
 
-/// The element that the subscript selects in the block of data that the word labels.
+/// The element that the subscript selects in the block of data that the word labels. What `walk::go_down` asks is asked here of the other
+/// sort of block, and what is answered is another thing: so the two are no twins.
+/// The kind is a number for the reason that `rows` gives, and what is answered is a pair as in the definition.
+#[tactic(auto, unfolding(layout::specs::Elements::row_chosen), using(layout::proofs::Gone::chosen_lt))]
 fn row_of(code: u64, kind: u64, subscript: i32, step: u8) -> Result<(u64, u64), Refusal>
     ensures { result ≡ row_chosen code kind subscript step }
 {
@@ -24,7 +27,8 @@ fn row_of(code: u64, kind: u64, subscript: i32, step: u8) -> Result<(u64, u64), 
     Ok((label.first + k, label.length - k))
 }
 
-/// The data element at the end of a trace: its address, and how many there are from it on.
+/// The data element at the end of a trace: its address, and how many there are from it on, a pair as in the definition.
+#[tactic(auto, unfolding(layout::specs::Elements::row_found))]
 pub fn row<S: Store>(
     store: &S,
     trace: &Trace,

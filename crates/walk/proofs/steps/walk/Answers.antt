@@ -1,35 +1,29 @@
-use Rattle.std.proofs.Common.{get_or, pos, Err, sym, refl, ap, ◌∙◌, arith, w32, SFits, rules}
-use Rattle.std.proofs.lemmas.Result.{err_from_is_err_and}
+use Rattle.std.proofs.Common.{length, sym, ap, ◌∙◌, inl, inr, arith, w32, SFits, rules}
+use Rattle.std.proofs.lemmas.List.{nil_from_length}
 use Rattle.std.proofs.lemmas.Int.{to_z-of_z}
-use Rattle.booking.specs.Traces.{subscripts}
-use Rattle.layout.specs.Walks.{walked}
-use Rattle.layout.proofs.Walked.{walked_end, walked_off, walked_on}
+use Rattle.walk.proofs.Refusals.{refusal_kept}
+use Rattle.walk.proofs.Turns.{walked_further, walked_none, walked_out}
 use Rattle.walk.proofs.steps.walk.Goals as goal
-
-pub loop-subscript-init : goal.loop-subscript-init
-loop-subscript-init g c = (refl, ap (λ n. walked (g.S.Store.words c.args.store.now) 1 n (subscripts c.args.trace.now)) (sym c.name-at.ensures))
 
 pub returns-in_err-at : goal.returns-in_err-at
 returns-in_err-at g c =
-    let p = err_from_is_err_and c.from_residual.result c.from_residual.ensures.1 in
-    let is = c.subscripts-subscript-items.result.now in
-    let m = c.loop-subscript.subscript-index in
-    let f : SFits w32 (get_or is m (pos 0)) = search rules in
-    p.1 ∙ ap Err p.2
-    ∙ sym (c.loop-subscript.invariant.1
-    ∙ walked_off _ c.loop-subscript.step c.loop-subscript.at c.word.result m is _ c.subscripts-subscript-items.ensures _ c.loop-subscript-test.true c.word.ensures
-    (to_z-of_z w32 (get_or is m (pos 0)) f) _ c.in_err-at.ensures)
+    let s = c.in-Some.ensures.steps in
+    let i = c.in-Some.subscript.now in
+    let f : SFits w32 i = search rules in
+    refusal_kept _ _ c.from_residual.ensures.1
+    ∙ sym (c.loop-subscript.invariant.0 ∙ walked_out _ _ _ _ _ i _ _ _ s.1.0 s.0 (to_z-of_z w32 i f) c.word.ensures _ c.in_err-at.ensures)
 
 pub loop-subscript-preserved : goal.loop-subscript-preserved
 loop-subscript-preserved g c =
-    let is = c.subscripts-subscript-items.result.now in
-    let m = c.loop-subscript.subscript-index in
-    let f : SFits w32 (get_or is m (pos 0)) = search rules in (
-      omega arith,
-      c.loop-subscript.invariant.1
-          ∙ walked_on _ c.loop-subscript.step c.loop-subscript.at c.word.result m is _ c.subscripts-subscript-items.ensures _ c.loop-subscript-test.true c.word.ensures
-          (to_z-of_z w32 (get_or is m (pos 0)) f) _ c.in_ok-at.ensures,
+    let s = c.in-Some.ensures.steps in
+    let i = c.in-Some.subscript.now in
+    let f : SFits w32 i = search rules in (
+      c.loop-subscript.invariant.0 ∙ walked_further _ _ _ _ _ i _ _ _ s.1.0 s.0 (to_z-of_z w32 i f) c.word.ensures _ _ c.in_ok-at.ensures s.1.1,
+      omega (arith, ap length s.0),
     )
 
 pub returns : goal.returns
-returns g c = sym (c.loop-subscript.invariant.1 ∙ walked_end _ _ _ _ _ _ c.subscripts-subscript-items.ensures c.loop-subscript-test.false)
+returns g c =
+    sym (c.loop-subscript.invariant.0
+    ∙ walked_none _ _ _ _
+    (nil_from_length _ (elim c.in-None.ensures.steps [ inl w ↦ w.1.0 | inr w ↦ absurd (omega (arith, w.1.0, c.loop-subscript.invariant.1)) ])))
