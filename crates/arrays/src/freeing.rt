@@ -5,6 +5,7 @@ ghost use Rattle.std.specs.Prelude.{◌≡◌, length};
 
 use crate::releasing::vacate;
 use booking::{Refusal, Trace};
+use layout::LEVELS;
 use store::{Store, word};
 use walk::walk;
 
@@ -19,6 +20,6 @@ pub fn free<S: Store>(store: &mut S, trace: &Trace) -> Result<(), Refusal>
     if word(store, at) == 0 {
         return Err(Refusal::Unlabelled(depth + 1));
     }
-    vacate(store, at, 4 - depth);
+    vacate(store, at, LEVELS - depth);
     Ok(())
 }

@@ -1,7 +1,8 @@
-ghost use Rattle.std.specs.Prelude.{◌+◌, ◌^◌, ◌<◌, ◌≤◌, length};
+ghost use Rattle.std.specs.Prelude.{◌-◌, ◌≤◌, length};
 ghost use Rattle.layout.specs.Weights.{Weighs, WeighsEach};
 
 use codeword::Codeword;
+use std::ops::Range;
 use store::{Store, word};
 
 /// The words that the array at `at` takes up, of at most `levels` blocks deep.
@@ -30,19 +31,19 @@ fn weigh<S: Store>(store: &S, at: u64, levels: u8, limit: u64) -> u64
     if !label.r {
         return own;
     }
-    own + weigh_each(store, label.first, label.length, levels - 1, limit - own)
+    let below = label.first..label.first + label.length;
+    own + weigh_each(store, below, levels - 1, limit - own)
 }
 
-/// The words that the arrays below the `n` codewords from `at` on take up, up to a limit.
+/// The words that the arrays below the codewords at these addresses take up, up to a limit.
 #[cycle(weigh_weigh_each)]
-fn weigh_each<S: Store>(store: &S, at: u64, n: u64, levels: u8, limit: u64) -> u64
-    requires { at + n < 2 ^ 64 }
-    ensures weighs { WeighsEach levels (S.Store.words store.now) at n limit result }
+fn weigh_each<S: Store>(store: &S, codes: Range<u64>, levels: u8, limit: u64) -> u64
+    ensures weighs { WeighsEach levels (S.Store.words store.now) codes.start (codes.end - codes.start) limit result }
     ensures within { result ≤ limit }
 {
     let mut sum = 0;
-    for i in 0..n {
-        sum += weigh(store, at + i, levels, limit - sum);
+    for at in codes {
+        sum += weigh(store, at, levels, limit - sum);
     }
     sum
 }

@@ -3,7 +3,8 @@ use Rattle.std.proofs.Common.{◌≡◌, ℕ, ◌+◌, ◌-◌, ◌*◌, ◌^◌
 use Rattle.std.proofs.lemmas.List.{get_or-set_same, get_or-set_other, length-set}
 use Rattle.std.proofs.lemmas.Bool.{cases_lt, cond-true, cond-false, lt-ltb, le-ltb}
 use Rattle.layout.specs.Arrangement.{Piece}
-use Rattle.layout.specs.Chains.{Begins, Chained, InChain, Loose, Relinked, Rising, head_word, last_of, next_at, size_at}
+use Rattle.layout.specs.Chains.{Begins, Chained, InChain, Loose, Relinked, Rising, last_of, next_at, size_at}
+use Rattle.codeword.specs.Heads.{head_word}
 use Rattle.layout.specs.Gaps.{link}
 use Rattle.layout.specs.Sound.{Each, covered}
 use Rattle.layout.specs.Words.{first_of, total}
@@ -40,7 +41,7 @@ begun a (g ∷ gs) (inr b) =
     record { before = g ∷ s.before; gap = s.gap; after = s.after; split = ap (λ (zs : List Piece). g ∷ zs) s.split; is = s.is }
 
 module _ (ws : List ℕ) (from at : ℕ) where
-  abbrev Seeks : ℕ → ℕ → Type 0
+  abbrev pub Seeks : ℕ → ℕ → Type 0
   Seeks link next = (gs : List Piece) → Chained ws gs → InChain from gs → Seeking at gs link next
 
   from_header : (gs : List Piece) → Chained ws gs → Seeking at gs 0 (next_at ws 0)

@@ -3,7 +3,8 @@ use Rattle.std.proofs.Common.{◌≡◌, ℕ, ◌+◌, ◌-◌, ◌*◌, ◌^◌
 use Rattle.std.proofs.lemmas.List.{get_or-set_same, get_or-set_other, length-set}
 use Rattle.std.proofs.lemmas.Bool.{cases_Bool, cases_eq, cases_lt, cond_both, cond-true, cond-false, eq-eqb, eqb-false, eqb-true, ne_eqb}
 use Rattle.layout.specs.Arrangement.{Piece}
-use Rattle.layout.specs.Chains.{Chained, Relinked, Rising, head_word, next_at, size_at}
+use Rattle.layout.specs.Chains.{Chained, Relinked, Rising, next_at, size_at}
+use Rattle.codeword.specs.Heads.{head_word}
 use Rattle.layout.specs.Gaps.{combined, join}
 use Rattle.layout.specs.Sound.{covered}
 use Rattle.layout.specs.Words.{first_of, total}
@@ -289,3 +290,7 @@ turn ws us gs at next more M =
       | inl e ↦ rw e (merge_turn ws us gs at next more M (eqb-true _ _ e))
       | inr e ↦ rw e (skip_turn ws us gs at next more M (eqb-false _ _ e))
     ]
+
+pub turn_ends : (ws us : List ℕ) (gs : List Piece) (at next after : ℕ) → at < next → after ≡ next_at us next → after ≤ next → Merges ws us gs at next
+    → Relinked ws (turned us at next) gs (combined gs)
+turn_ends ws us gs at next after more e h M = (turn ws us gs at next more M).1 (rw (← e) h)

@@ -4,7 +4,7 @@ use Rattle.codeword.specs.Codeword.{unpacked}
 use Rattle.std.proofs.lemmas.List.{get_or_past, get_or-set_other, get_or-set_same, length-set, set_past}
 use Rattle.std.proofs.lemmas.Bool.{cases_eq, cases_lt, cond_both}
 use Rattle.layout.proofs.Step.{copied_above, copied_below, copied_in, copied_word}
-use Rattle.placement.specs.Moves.{aimed, copied, renewed, stepped}
+use Rattle.placement.specs.Moves.{aimed, copied, renewed, renewed_at, stepped}
 
 -- after a set the word at k is the new one, at its address within the words, and else the old one
 pub at_set : (ws : List ℕ) (a w k : ℕ) → ((k ≡ a) × (a < length ws) × (get_or (set ws a w) k 0 ≡ w)) ⊎ ((k ≡ a → length ws ≤ a) × (get_or (set ws a w) k 0 ≡ get_or ws k 0))
@@ -73,3 +73,39 @@ length_stepped from to ws =
     let e : length v ≡ length ws = length-set u o (aimed c (to + 1)) ∙ length_copied (n + 1) from to ws in
     ap length (stepped_is from to ws o c n (unpacked c).r refl refl refl refl)
     ∙ cond_both (unpacked c).r (renewed n (to + 1) v) v (λ u. length u ≡ length ws) (λ _. length_renewed n (to + 1) v ∙ e) (λ _. e)
+
+-- ── The loops over addresses ───────────────────────────────────────────
+
+module _ (s i at : ℕ) (ws us : List ℕ) (lo : s ≤ i) (is : at ≡ i) where
+  more : suc (i - s) ≡ i + 1 - s
+  more = omega arith
+
+  here : at ≡ s + (i - s)
+  here = omega arith
+
+  -- the word at the next address is copied too
+  pub copied_next : (by w : ℕ) → by ≤ s → us ≡ copied (i - s) s (s - by) ws → w ≡ get_or us at 0 → set us (at - by) w ≡ copied (i + 1 - s) s (s - by) ws
+  unfolding copied
+  copied_next by w le e read =
+      let to : at - by ≡ s - by + (i - s) = omega arith in
+      ap (λ (k : ℕ). set us k w) to
+      ∙ ap (set us (s - by + (i - s))) (read ∙ ap (λ (k : ℕ). get_or us k 0) here)
+      ∙ ap (λ (zs : List ℕ). set zs (s - by + (i - s)) (get_or zs (s + (i - s)) 0)) e
+      ∙ ap (λ (k : ℕ). copied k s (s - by) ws) more
+
+  -- the block that the codeword at the next address labels is renewed too
+  pub renewed_next : us ≡ renewed (i - s) s ws → renewed_at at us ≡ renewed (i + 1 - s) s ws
+  unfolding renewed
+  renewed_next e =
+      ap (λ (k : ℕ). renewed_at k us) here
+      ∙ ap (renewed_at (s + (i - s))) e
+      ∙ ap (λ (k : ℕ). renewed k s ws) more
+
+-- of no words
+pub copied_none : (s to : ℕ) (ws : List ℕ) → ws ≡ copied (s - s) s to ws
+unfolding copied
+copied_none s to ws = ap (λ (k : ℕ). copied k s to ws) (let e : 0 ≡ s - s = omega arith in e)
+
+pub renewed_none : (s : ℕ) (ws : List ℕ) → ws ≡ renewed (s - s) s ws
+unfolding renewed
+renewed_none s ws = ap (λ (k : ℕ). renewed k s ws) (let e : 0 ≡ s - s = omega arith in e)

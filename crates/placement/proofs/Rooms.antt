@@ -1,5 +1,5 @@
 -- Finding room: in the first gap that fits, else once gaps are combined, else once blocks are closed up.
-use Rattle.std.proofs.Common.{◌≡◌, ℕ, ◌-◌, ◌<◌, ◌≤◌, List, [], ◌∷◌, sym, refl, ap, ◌∙◌, subst, inl, inr, arith}
+use Rattle.std.proofs.Common.{◌≡◌, ℕ, ◌-◌, ◌<◌, ◌≤◌, true, false, Option, Some, None, IfSome, is_some, unwrap_or, List, [], ◌∷◌, sym, refl, ap, ◌∙◌, subst, inl, inr, arith, lit≤}
 use Rattle.std.proofs.lemmas.Bool.{cases_lt}
 use Rattle.layout.specs.Arrangement.{Arrangement, Piece}
 use Rattle.layout.specs.Chains.{Chained, Relinked}
@@ -17,6 +17,15 @@ use Rattle.layout.proofs.Relink.{chained, relinked}
 use Rattle.layout.proofs.Rooms.{combined_closes, combined_sound, combined_total, fit_sound, tidied_shown}
 use Rattle.placement.specs.Gaps.{Finds, PlacedIn}
 use Rattle.layout.specs.Room.{Roomed}
+
+-- an address that was found is above 0, which stands for none
+pub some_above : (o : Option ℕ) → IfSome o (λ at. (0 < at) × (at < 262144)) → is_some o ≡ true → 0 < unwrap_or o 0
+some_above (Some at) small e = small.0
+some_above None small e = cc
+
+pub none_zero : (o : Option ℕ) → is_some o ≡ false → unwrap_or o 0 ≤ 0
+none_zero (Some at) e = cc
+none_zero None e = lit≤ tt
 
 -- what a search, the combining and a tidy say of their words
 pub record Searches (n : ℕ) (ws : List ℕ) (at : ℕ) (us : List ℕ) : Type 0 where

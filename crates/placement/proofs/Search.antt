@@ -1,9 +1,10 @@
 -- The search along the chain, and the front of a gap taken out of it.
-use Rattle.std.proofs.Common.{◌≡◌, ℕ, ◌+◌, ◌-◌, ◌*◌, ◌^◌, ◌<◌, ◌≤◌, true, false, ltb, leb, ◌≢◌, List, [], ◌∷◌, ◌++◌, length, get_or, set, sym, refl, ap, ◌∙◌, subst, inl, inr, append_assoc, arith}
+use Rattle.std.proofs.Common.{◌≡◌, ℕ, ◌+◌, ◌-◌, ◌*◌, ◌^◌, ◌<◌, ◌≤◌, true, false, leb, ◌≢◌, List, [], ◌∷◌, ◌++◌, length, get_or, set, sym, refl, ap, ◌∙◌, subst, inl, inr, append_assoc, arith}
 use Rattle.std.proofs.lemmas.List.{get_or-set_same, get_or-set_other, length-set}
-use Rattle.std.proofs.lemmas.Bool.{cases_lt, cond_both, cond-true, cond-false, lt-ltb, le-ltb, le-leb, leb-false, leb-true, lt-leb}
+use Rattle.std.proofs.lemmas.Bool.{cases_lt, cond-true, cond-false, lt-ltb, le-ltb, le-leb, leb-false, leb-true, lt-leb}
 use Rattle.layout.specs.Arrangement.{Piece}
-use Rattle.layout.specs.Chains.{Chained, Relinked, Rising, head_word, last_of, next_at, size_at}
+use Rattle.layout.specs.Chains.{Chained, Relinked, Rising, last_of, next_at, size_at}
+use Rattle.codeword.specs.Heads.{head_word}
 use Rattle.layout.specs.Gaps.{Fit, a_gap, first_fit_of, gap_at, keep, no_gap}
 use Rattle.layout.specs.Holds.{Chain}
 use Rattle.layout.specs.Sound.{Each}
@@ -24,7 +25,7 @@ pub record Passed (n : ℕ) (gs : List Piece) (link at : ℕ) : Type 0 where
   pub small : Each (λ g. g.size < n) before
 
 module _ (ws : List ℕ) (n : ℕ) where
-  abbrev Passes : ℕ → ℕ → Type 0
+  abbrev pub Passes : ℕ → ℕ → Type 0
   Passes link at = (gs : List Piece) → Chained ws gs → Passed n gs link at
 
   pub pass_start : Passes 0 (next_at ws 0)
@@ -84,12 +85,6 @@ closed_else us link n next y h ne = get_or-set_other _ 0 y _ 0 (λ z. omega arit
 
 closed_long : (us : List ℕ) (link n next : ℕ) → length (closed link n next us) ≡ length us
 closed_long us link n next = length-set _ 0 _ ∙ length-set us link _
-
-pub cut_long : (link at n : ℕ) (ws : List ℕ) → length (cut link at n ws) ≡ length ws
-cut_long link at n ws =
-    let us = set ws (at + n) (head_word (size_at ws at - n) (next_at ws at)) in
-    cond_both (ltb n (size_at ws at)) (closed link n (at + n) us) (closed link n (next_at ws at) ws) (λ vs. length vs ≡ length ws)
-    (λ _. closed_long us link n (at + n) ∙ length-set ws (at + n) _) (λ _. closed_long ws link n (next_at ws at))
 
 module _ (ws : List ℕ) (n : ℕ) (before : List Piece) (g : Piece) (after : List Piece) (G : Chained ws (before ++ g ∷ after))
     (fit : n ≤ g.size) (some : 1 ≤ n) where

@@ -130,11 +130,11 @@ block_on A o x to link ws more (used k ∷ ts) W away m e =
 -- one step of closing up, whichever it is
 module _ (at to link : ℕ) (ws : List ℕ) (at' to' link' : ℕ) (ws' : List ℕ)
     (gap : at ≡ link → OverGap at to link ws at' to' link' ws') (block : (at ≡ link → ⊥) → OverBlock at to link ws at' to' link' ws') where
-  pub step_bounds : to ≤ at → at < 2 ^ 18 → (to' ≤ at') × (at < at') × (at' ≤ 2 ^ 19) × (length ws' ≡ length ws)
-  step_bounds h l =
+  pub step_bounds : at < 2 ^ 18 → (at' ≤ 2 ^ 19) × (length ws' ≡ length ws)
+  step_bounds l =
       elim (cases_eq at link) [
-        | inl e ↦ let g = gap e in (omega arith, omega arith, omega arith, ap length g.3)
-        | inr e ↦ let b = block e in (omega arith, omega arith, omega arith, ap length b.3 ∙ length_stepped at to ws)
+        | inl e ↦ let g = gap e in (omega arith, ap length g.3)
+        | inr e ↦ let b = block e in (omega arith, ap length b.3 ∙ length_stepped at to ws)
       ]
 
   pub step_walk : (A : Arrangement) → Sound A → at < A.count → (rest : List Tile) → Walk A rest at to link ws → (ts : List Tile) × Walk A ts at' to' link' ws'

@@ -3,7 +3,8 @@ use Rattle.std.proofs.Common.{◌≡◌, ℕ, ◌+◌, ◌-◌, ◌*◌, ◌^◌
 use Rattle.std.proofs.lemmas.List.{get_or-set_other, get_or-set_same, length-set}
 use Rattle.std.proofs.lemmas.Bool.{cases_lt, cond-false, cond-true, eq-eqb, ne_eqb}
 use Rattle.layout.specs.Arrangement.{Arrangement}
-use Rattle.layout.specs.Chains.{Chained, head_word}
+use Rattle.layout.specs.Chains.{Chained}
+use Rattle.codeword.specs.Heads.{head_word}
 use Rattle.layout.specs.Gaps.{a_gap}
 use Rattle.layout.specs.Holds.{Displays}
 use Rattle.layout.specs.Keeping.{tidied}

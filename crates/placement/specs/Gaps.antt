@@ -1,7 +1,8 @@
 -- The first gap that is large enough, and what taking its front leaves.
 use Rattle.std.specs.Prelude.{◌≡◌, ℕ, ◌+◌, ◌-◌, ◌<◌, ◌≤◌, Bool, cond, ◌↔◌, List, [], ◌∷◌, ◌++◌, length, set, ◌==◌, nat_lt, slice_index, slice_set}
 use Rattle.layout.specs.Arrangement.{Piece}
-use Rattle.layout.specs.Chains.{Relinked, head_word, last_of, next_at, size_at}
+use Rattle.layout.specs.Chains.{Relinked, last_of, next_at, size_at}
+use Rattle.codeword.specs.Heads.{head_word}
 use Rattle.layout.specs.Gaps.{Fit, gap_at, no_gap}
 use Rattle.layout.specs.Sound.{Each}
 use Rattle.layout.specs.Words.{first_of}

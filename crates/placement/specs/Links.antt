@@ -1,7 +1,8 @@
 -- Where a piece belongs in the chain, and what writing it there does to a list of words.
 use Rattle.std.specs.Prelude.{◌≡◌, ℕ, ◌+◌, ◌-◌, ◌^◌, ◌<◌, ◌≤◌, min, List, [], ◌∷◌, ◌++◌, slice_set}
 use Rattle.layout.specs.Arrangement.{Piece}
-use Rattle.layout.specs.Chains.{head_word, last_of, next_at, size_at}
+use Rattle.layout.specs.Chains.{last_of, next_at, size_at}
+use Rattle.codeword.specs.Heads.{head_word}
 use Rattle.layout.specs.Sound.{Each}
 use Rattle.layout.specs.Words.{first_of}
 

@@ -1,4 +1,5 @@
 ghost use Rattle.std.specs.Prelude.{◌≡◌, ◌<◌, ◌≤◌, length, ◌≢◌};
+ghost use Rattle.layout.specs.Chains.{next_at};
 ghost use Rattle.layout.specs.Holds.{Holds};
 ghost use Rattle.layout.specs.Keeping.{tidied};
 ghost use Rattle.placement.specs.Gaps.{gap_from};
@@ -6,6 +7,8 @@ ghost use Rattle.placement.specs.Moves.{OverBlock, OverGap};
 
 use crate::chain::{head_at, put_head};
 use crate::mover::move_block;
+use codeword::Head;
+use layout::FIRST;
 use store::{Store, clear};
 
 /// Makes the words from `at` on the only gap; if there are none, there is no gap.
@@ -13,27 +16,44 @@ pub fn leave_gap<S: Store>(store: &mut S, at: u64)
     ensures words { S.Store.words store.new ≡ gap_from at (S.Store.words store.old) }
     ensures rest { S.Store.rest store.new ≡ S.Store.rest store.old }
 {
-    let left = store.count().saturating_sub(at);
-    if left == 0 {
-        put_head(store, 0, 0, 0);
+    let size = store.count().saturating_sub(at);
+    if size == 0 {
+        put_head(store, 0, Head { size: 0, next: 0 });
         return;
     }
-    clear(store, at, left);
-    put_head(store, at, left, 0);
-    put_head(store, 0, left, at);
+    clear(store, at, size);
+    put_head(store, at, Head { size, next: 0 });
+    put_head(store, 0, Head { size, next: at });
 }
 
-/// Where closing up stands: at what comes next, with the blocks before it moved down to below `to`; the next gap begins at `link`.
+/// Where closing up stands: at what comes next, with the blocks before it moved down to below `to`; the next gap begins at `link`,
+/// which is 0 for none, as the words say it. Past the last word, `at` may be 262144 or more; `pass` is not called then.
 #[derive(Clone, Copy)]
 struct Scan {
     at: u64,
     to: u64,
     link: u64,
+    ghost below: { to ≤ at },
+}
+
+impl Scan {
+    /// At the first address that a block or a gap can have, with nothing moved yet.
+    fn from_start<S: Store>(store: &S) -> Scan
+        ensures at { result.at ≡ 65 }
+        ensures to { result.to ≡ 65 }
+        ensures link { result.link ≡ next_at (S.Store.words store.now) 0 }
+    {
+        Scan {
+            at: FIRST,
+            to: FIRST,
+            link: head_at(store, 0).next,
+        }
+    }
 }
 
 /// Passes over a gap, or moves a block down.
 fn pass<S: Store>(store: &mut S, scan: Scan) -> Scan
-    requires { (scan.to ≤ scan.at) × (scan.at < 262144) }
+    requires { scan.at < 262144 }
     ensures gap { scan.at ≡ scan.link → OverGap scan.at scan.to scan.link (S.Store.words store.old) result.at result.to result.link (S.Store.words store.new) }
     ensures block { (scan.at ≢ scan.link) → OverBlock scan.at scan.to scan.link (S.Store.words store.old) result.at result.to result.link (S.Store.words store.new) }
     ensures rest { S.Store.rest store.new ≡ S.Store.rest store.old }
@@ -55,17 +75,15 @@ fn pass<S: Store>(store: &mut S, scan: Scan) -> Scan
 }
 
 /// Closes the blocks up from 65, in the order of their addresses, with one gap behind them.
+#[tactic(auto, using(crate::proofs::Tail::length_gap_from))]
 pub fn tidy<S: Store>(store: &mut S)
     ensures words { Holds (S.Store.words store.old) → S.Store.words store.new ≡ tidied (S.Store.words store.old) }
     ensures count { length (S.Store.words store.new) ≡ length (S.Store.words store.old) }
     ensures rest { S.Store.rest store.new ≡ S.Store.rest store.old }
 {
     let count = store.count();
-    let mut scan = Scan {
-        at: 65,
-        to: 65,
-        link: head_at(store, 0).next,
-    };
+    let mut scan = Scan::from_start(store);
+    // No range or iterator is plainer: each turn goes on by as many words as the gap or the block has, and changes the store.
     while scan.at < count {
         scan = pass(store, scan);
     }

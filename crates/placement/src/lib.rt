@@ -4,6 +4,7 @@
 mod chain;
 mod closing;
 mod finding;
+mod following;
 mod gaps;
 mod link;
 mod mover;

@@ -5,55 +5,45 @@ ghost use Rattle.layout.specs.Released.{LinksAfter};
 ghost use Rattle.placement.specs.Links.{Sought, spliced};
 ghost use Rattle.std.specs.Prelude.{◌≡◌, List, ◌∷◌, length};
 
-use crate::chain::{head_at, put_head};
+use crate::chain::{Link, head_at, put_head};
+use crate::following::links_from;
+use codeword::Head;
 use store::{Store, clear};
 
-/// Where a piece from `at` on belongs in the chain: the address of the word to link from, and that of the next gap. The search
-/// begins at the gap at `from` if that lies below, else at the header.
-fn seek_from<S: Store>(store: &S, from: u64, at: u64) -> (u64, u64)
-    ensures { (gs : List Piece) → Chained (S.Store.words store.now) gs → InChain from gs → Sought at gs result.0 result.1 }
+/// Where a piece from `at` on belongs in the chain: the link that it breaks. The search begins at the gap at `from` if that lies below,
+/// else at the header.
+fn seek_from<S: Store>(store: &S, from: u64, at: u64) -> Link
+    ensures { (gs : List Piece) → Chained (S.Store.words store.now) gs → InChain from gs → Sought at gs result.before result.next }
 {
-    let mut before = if from < at { from } else { 0 };
-    let mut next = head_at(store, before).next;
-    while before < next {
-        if at < next {
-            return (before, next);
-        }
-        before = next;
-        next = head_at(store, next).next;
-    }
-    (before, 0)
-}
-
-/// The same, searched from the header on.
-fn seek<S: Store>(store: &S, at: u64) -> (u64, u64)
-    ensures { (gs : List Piece) → Chained (S.Store.words store.now) gs → Sought at gs result.0 result.1 }
-{
-    seek_from(store, 0, at)
+    let mut links = links_from(store, if from < at { from } else { 0 });
+    links.find(|link| at < link.next).unwrap_or(links.end())
 }
 
 /// Writes a gap of `size` words at `at` between two others, and adds it to the total.
-fn splice<S: Store>(store: &mut S, before: u64, next: u64, at: u64, size: u64)
-    ensures words { S.Store.words store.new ≡ spliced before next at size (S.Store.words store.old) }
+fn splice<S: Store>(store: &mut S, link: Link, at: u64, size: u64)
+    ensures words { S.Store.words store.new ≡ spliced link.before link.next at size (S.Store.words store.old) }
     ensures rest { S.Store.rest store.new ≡ S.Store.rest store.old }
 {
-    put_head(store, at, size, next);
-    let gap = head_at(store, before);
-    put_head(store, before, gap.size, at);
+    let next = link.next;
+    put_head(store, at, Head { size, next });
+    let gap = head_at(store, link.before);
+    put_head(store, link.before, Head { next: at, ..gap });
     let header = head_at(store, 0);
-    put_head(store, 0, header.size.saturating_add(size), header.next);
+    let size = header.size.saturating_add(size);
+    put_head(store, 0, Head { size, ..header });
 }
 
 /// Zeros the `size` words from `at` on and links them into the chain, which is searched from the gap at `from` on. They combine
 /// with none.
+#[tactic(auto, using(crate::proofs::Links::spliced_long, store::proofs::Zeroed::length_zeroed))]
 pub fn link_gap_after<S: Store>(store: &mut S, from: u64, at: u64, size: u64)
     ensures links { LinksAfter (S.Store.words store.old) from at size (S.Store.words store.new) }
     ensures count { length (S.Store.words store.new) ≡ length (S.Store.words store.old) }
     ensures rest { S.Store.rest store.new ≡ S.Store.rest store.old }
 {
     clear(store, at, size);
-    let (before, next) = seek_from(store, from, at);
-    splice(store, before, next, at, size);
+    let link = seek_from(store, from, at);
+    splice(store, link, at, size);
 }
 
 /// Zeros the `size` words from `at` on and links them into the chain. They combine with none.
@@ -62,7 +52,5 @@ pub fn link_gap<S: Store>(store: &mut S, at: u64, size: u64)
     ensures count { length (S.Store.words store.new) ≡ length (S.Store.words store.old) }
     ensures rest { S.Store.rest store.new ≡ S.Store.rest store.old }
 {
-    clear(store, at, size);
-    let (before, next) = seek(store, at);
-    splice(store, before, next, at, size);
+    link_gap_after(store, 0, at, size);
 }

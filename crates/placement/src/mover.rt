@@ -1,27 +1,20 @@
-ghost use Rattle.std.specs.Prelude.{◌≡◌, ◌+◌, ◌^◌, ◌<◌, ◌≤◌, slice_index, slice_set};
+ghost use Rattle.std.specs.Prelude.{◌≡◌, ◌-◌, ◌<◌, ◌≤◌};
 ghost use Rattle.placement.specs.Moves.{aimed, block_size, copied, renewed, renewed_at, stepped};
 
-use crate::chain::FIELD;
-use codeword::Codeword;
+use codeword::{Codeword, FIELD};
+use std::ops::Range;
 use store::{Store, put, word};
 
-/// Copies one word.
-fn copy_word<S: Store>(store: &mut S, from: u64, to: u64)
-    ensures words { S.Store.words store.new ≡ slice_set (S.Store.words store.old) to (slice_index (S.Store.words store.old) from) }
+/// Moves the words at the addresses of a block down by `by` addresses, the first first.
+#[tactic(auto, using(crate::proofs::Moves::copied_next, crate::proofs::Moves::copied_none))]
+pub fn move_down<S: Store>(store: &mut S, block: Range<u64>, by: u64)
+    requires { by ≤ block.start }
+    ensures words { S.Store.words store.new ≡ copied (block.end - block.start) block.start (block.start - by) (S.Store.words store.old) }
     ensures rest { S.Store.rest store.new ≡ S.Store.rest store.old }
 {
-    let word = word(store, from);
-    put(store, to, word);
-}
-
-/// Copies `n` words from `from` on to `to` on, the first first.
-pub fn move_down<S: Store>(store: &mut S, from: u64, to: u64, n: u64)
-    requires { (to ≤ from) × (from + n < 2 ^ 64) }
-    ensures words { S.Store.words store.new ≡ copied n from to (S.Store.words store.old) }
-    ensures rest { S.Store.rest store.new ≡ S.Store.rest store.old }
-{
-    for i in 0..n {
-        copy_word(store, from + i, to + i);
+    for at in block {
+        let word = word(store, at);
+        put(store, at - by, word);
     }
 }
 
@@ -36,25 +29,26 @@ fn renew_one<S: Store>(store: &mut S, at: u64)
     }
 }
 
-/// Renews the back-references of the blocks that the `n` codewords from `at` on label.
-pub fn renew<S: Store>(store: &mut S, at: u64, n: u64)
-    requires { at + n < 2 ^ 64 }
-    ensures words { S.Store.words store.new ≡ renewed n at (S.Store.words store.old) }
+/// Renews the back-references of the blocks that the codewords at these addresses label.
+#[tactic(auto, using(crate::proofs::Moves::renewed_next, crate::proofs::Moves::renewed_none))]
+pub fn renew<S: Store>(store: &mut S, codes: Range<u64>)
+    ensures words { S.Store.words store.new ≡ renewed (codes.end - codes.start) codes.start (S.Store.words store.old) }
     ensures rest { S.Store.rest store.new ≡ S.Store.rest store.old }
 {
-    for i in 0..n {
-        renew_one(store, at + i);
+    for at in codes {
+        renew_one(store, at);
     }
 }
 
-/// The codeword with another first address.
+/// The codeword with another first address. It is made from the word and not from the fields, since bits without a name stay as they are.
 fn aimed(code: u64, first: u64) -> u64
     ensures { result ≡ aimed code first }
 {
     code - code % FIELD + first % FIELD
 }
 
-/// Moves the block whose back-reference stands at `from` down to `to`, and answers how many words it has.
+/// Moves the block whose back-reference stands at `from` down to `to`, and answers how many words it has. A type for the two, or for
+/// addresses below 262144, is no plainer, since `pass` alone would make values of it, for this one call.
 pub fn move_block<S: Store>(store: &mut S, from: u64, to: u64) -> u64
     requires { (to ≤ from) × (from < 262144) }
     ensures size { result ≡ block_size (S.Store.words store.old) from }
@@ -64,10 +58,10 @@ pub fn move_block<S: Store>(store: &mut S, from: u64, to: u64) -> u64
     let owner = word(store, from);
     let code = word(store, owner);
     let label = Codeword::unpack(code);
-    move_down(store, from, to, label.length + 1);
+    move_down(store, from..from + label.length + 1, from - to);
     put(store, owner, aimed(code, to + 1));
     if label.r {
-        renew(store, to + 1, label.length);
+        renew(store, to + 1..to + 1 + label.length);
     }
     label.length + 1
 }

@@ -1,16 +1,7 @@
-use Rattle.std.proofs.Common.{ℕ, subst}
-use Rattle.layout.specs.Released.{ReleasesWithin}
 use Rattle.layout.proofs.Releases.{vacates}
 use Rattle.arrays.proofs.releasing.vacate.Goals as goal
 
-pub returns : goal.returns
-returns g c =
-    let ws = g.S.Store.words c.args.store.now in
-    let vs = g.S.Store.words c.release.new.store in
-    let e = c.release.ensures in
-    record {
-      vacates = vacates c.args.levels ws c.args.at vs _ _
-          (subst (λ (n : ℕ). ReleasesWithin c.args.levels ws c.args.at n 0 vs c.release.result.left c.release.result.last) c.count.ensures e.releases);
-      count = e.count;
-      rest = e.rest;
-    }
+pub returns-clause-vacates : goal.returns-clause-vacates
+returns-clause-vacates g c =
+    let p = c.from_start-progress.ensures in
+    vacates c.args.levels _ c.args.at _ _ _ (rw (p.left, p.last) at c.release.ensures.releases)

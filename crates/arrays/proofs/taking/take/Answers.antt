@@ -1,94 +1,56 @@
-use Rattle.std.proofs.Common.{ℕ, ◌+◌, ◌-◌, ℤ, Err, refl, ap, ◌∙◌, arith, w64}
-use Rattle.std.proofs.lemmas.Result.{err_from_is_err_and}
-use Rattle.std.proofs.lemmas.Int.{to_z-of_z}
+use Rattle.std.proofs.Common.{ℕ, ◌+◌, ◌-◌, ap, unwrap_or, arith}
+use Rattle.walk.proofs.Refusals.{refusal_kept}
 use Rattle.booking.specs.Bookings.{Take, on}
-use Rattle.layout.specs.Attached.{label_taken}
 use Rattle.layout.proofs.Owed.{passed_on, walk_owes}
 use Rattle.layout.proofs.Takes.{take_done, take_lost, take_no_room, take_unfit}
 use Rattle.arrays.proofs.taking.take.Goals as goal
 
-pub returns-in_err-at : goal.returns-in_err-at
-returns-in_err-at g c =
-    let p = err_from_is_err_and c.from_residual.result c.from_residual.ensures.1 in
+pub returns-in_err-at-clause-booked : goal.returns-in_err-at-clause-booked
+returns-in_err-at-clause-booked g c =
     let ws = g.S.Store.words c.args.store.now in
     let t = c.args.trace.now in
-    let a = Take c.args.n c.args.base c.args.codes c.args.number in
-    record {
-      booked = λ h. passed_on ws ws (on t a) _ _ (p.1 ∙ ap Err p.2) (walk_owes ws h t a _ c.in_err-at.ensures);
-      count = refl;
-      rest = refl;
-    }
+    let x = c.args.shape in
+    let a = Take x.length x.base x.codes x.kind in
+    λ h. passed_on ws ws (on t a) _ _ (refusal_kept _ _ c.from_residual.ensures.1) (walk_owes ws h t a _ c.in_err-at.ensures)
 
-pub returns-in_err-label : goal.returns-in_err-label
-returns-in_err-label g c =
-    let p = err_from_is_err_and c.from_residual-in_err-label.result c.from_residual-in_err-label.ensures.1 in
+pub returns-in_err-label-clause-booked : goal.returns-in_err-label-clause-booked
+returns-in_err-label-clause-booked g c =
     let ws = g.S.Store.words c.args.store.now in
     let t = c.args.trace.now in
-    let n = c.args.n in
-    let b = c.args.base in
-    let q = c.args.codes in
-    let y = c.args.number in
-    let j = c.depth-depth.result + 1 in
-    record {
-      booked = λ h. passed_on ws ws (on t (Take n b q y)) _ _ (p.1 ∙ ap Err p.2)
-          (take_unfit ws h t c.in_ok-at.at c.in_ok-at.ensures n b q y j (ap (λ (k : ℕ). k + 1) c.depth-depth.ensures) _
-          (c.in_err-label.ensures ∙ ap (λ (z : ℤ). label_taken n z q y j) (to_z-of_z w64 b c.ranges.base)));
-      count = refl;
-      rest = refl;
-    }
+    let x = c.args.shape in
+    λ h. passed_on ws ws (on t (Take x.length x.base x.codes x.kind)) _ _ (refusal_kept _ _ c.from_residual-in_err-label.ensures.1)
+    (take_unfit ws h t c.in_ok-at.at c.in_ok-at.ensures x.length x.base x.codes x.kind (c.depth-depth.result + 1)
+    (ap (λ (k : ℕ). k + 1) c.depth-depth.ensures) _ c.in_err-label.ensures)
 
-pub returns-then-n-free_words : goal.returns-then-n-free_words
-returns-then-n-free_words g c =
+pub returns-then-shape-free_words-clause-booked : goal.returns-then-shape-free_words-clause-booked
+returns-then-shape-free_words-clause-booked g c =
     let ws = g.S.Store.words c.args.store.now in
-    let n = c.args.n in
-    let b = c.args.base in
-    let q = c.args.codes in
-    let y = c.args.number in
-    let j = c.depth-depth.result + 1 in
-    record {
-      booked = λ h.
-          take_no_room ws h c.args.trace.now c.in_ok-at.at c.in_ok-at.ensures n b q y j (ap (λ (k : ℕ). k + 1) c.depth-depth.ensures)
-          c.in_ok-label.label (c.in_ok-label.ensures ∙ ap (λ (z : ℤ). label_taken n z q y j) (to_z-of_z w64 b c.ranges.base))
-          (4 - c.depth-depth.result) c.weight.result c.free_words.result (ap (λ (k : ℕ). 4 - k) c.depth-depth.ensures) c.weight.ensures.weighs
-          c.free_words.ensures (omega (arith, c.if-n-free_words.true));
-      count = refl;
-      rest = refl;
-    }
+    let x = c.args.shape in
+    λ h.
+    take_no_room ws h c.args.trace.now c.in_ok-at.at c.in_ok-at.ensures x.length x.base x.codes x.kind (c.depth-depth.result + 1)
+    (ap (λ (k : ℕ). k + 1) c.depth-depth.ensures) c.in_ok-label.label c.in_ok-label.ensures
+    (4 - c.depth-depth.result) c.weight.result c.free_words.result (ap (λ (k : ℕ). 4 - k) c.depth-depth.ensures) c.weight.ensures.weighs
+    c.free_words.ensures (omega (arith, c.if-shape-free_words.true))
 
-pub returns-in_err-place : goal.returns-in_err-place
-returns-in_err-place g c =
+pub returns-in_err-place-clause-booked : goal.returns-in_err-place-clause-booked
+returns-in_err-place-clause-booked g c =
     let ws = g.S.Store.words c.args.store.now in
-    let n = c.args.n in
-    let b = c.args.base in
-    let q = c.args.codes in
-    let y = c.args.number in
-    let j = c.depth-depth.result + 1 in
-    record {
-      booked = λ h.
-          absurd (take_lost ws h c.args.trace.now c.in_ok-at.at c.in_ok-at.ensures n b q y j (ap (λ (k : ℕ). k + 1) c.depth-depth.ensures)
-          c.in_ok-label.label (c.in_ok-label.ensures ∙ ap (λ (z : ℤ). label_taken n z q y j) (to_z-of_z w64 b c.ranges.base))
-          (4 - c.depth-depth.result) c.weight.result c.free_words.result (ap (λ (k : ℕ). 4 - k) c.depth-depth.ensures) c.weight.ensures.weighs
-          c.free_words.ensures (omega (arith, c.if-n-free_words.false)) _ c.vacate.ensures.vacates c.room-start.result _ c.room-start.ensures.found _
-          c.in_err-place.ensures);
-      count = c.room-start.ensures.count ∙ c.vacate.ensures.count;
-      rest = c.room-start.ensures.rest ∙ c.vacate.ensures.rest;
-    }
+    let x = c.args.shape in
+    λ h.
+    absurd (take_lost ws h c.args.trace.now c.in_ok-at.at c.in_ok-at.ensures x.length x.base x.codes x.kind (c.depth-depth.result + 1)
+    (ap (λ (k : ℕ). k + 1) c.depth-depth.ensures) c.in_ok-label.label c.in_ok-label.ensures
+    (4 - c.depth-depth.result) c.weight.result c.free_words.result (ap (λ (k : ℕ). 4 - k) c.depth-depth.ensures) c.weight.ensures.weighs
+    c.free_words.ensures (omega (arith, c.if-shape-free_words.false)) _ c.vacate.ensures.vacates (unwrap_or c.room.result 0) _ c.room.ensures.found _
+    c.in_err-place.ensures)
 
-pub returns : goal.returns
-returns g c =
+pub returns-clause-booked : goal.returns-clause-booked
+returns-clause-booked g c =
     let ws = g.S.Store.words c.args.store.now in
-    let n = c.args.n in
-    let b = c.args.base in
-    let q = c.args.codes in
-    let y = c.args.number in
-    let j = c.depth-depth.result + 1 in
-    record {
-      booked = λ h.
-          take_done ws h c.args.trace.now c.in_ok-at.at c.in_ok-at.ensures n b q y j (ap (λ (k : ℕ). k + 1) c.depth-depth.ensures)
-          c.in_ok-label.label (c.in_ok-label.ensures ∙ ap (λ (z : ℤ). label_taken n z q y j) (to_z-of_z w64 b c.ranges.base))
-          (4 - c.depth-depth.result) c.weight.result c.free_words.result (ap (λ (k : ℕ). 4 - k) c.depth-depth.ensures) c.weight.ensures.weighs
-          c.free_words.ensures (omega (arith, c.if-n-free_words.false)) _ c.vacate.ensures.vacates c.room-start.result _ c.room-start.ensures.found
-          c.in_ok-place.place c.in_ok-place.ensures _ c.attach.ensures.attaches;
-      count = c.attach.ensures.count ∙ c.room-start.ensures.count ∙ c.vacate.ensures.count;
-      rest = c.attach.ensures.rest ∙ c.room-start.ensures.rest ∙ c.vacate.ensures.rest;
-    }
+    let x = c.args.shape in
+    λ h.
+    take_done ws h c.args.trace.now c.in_ok-at.at c.in_ok-at.ensures x.length x.base x.codes x.kind (c.depth-depth.result + 1)
+    (ap (λ (k : ℕ). k + 1) c.depth-depth.ensures) c.in_ok-label.label c.in_ok-label.ensures
+    (4 - c.depth-depth.result) c.weight.result c.free_words.result (ap (λ (k : ℕ). 4 - k) c.depth-depth.ensures) c.weight.ensures.weighs
+    c.free_words.ensures (omega (arith, c.if-shape-free_words.false)) _ c.vacate.ensures.vacates c.unwrap_or-start.result _
+    (rw (← c.unwrap_or-start.ensures) at c.room.ensures.found)
+    c.in_ok-place.place c.in_ok-place.ensures _ c.attach.ensures.attaches

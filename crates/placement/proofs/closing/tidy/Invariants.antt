@@ -8,8 +8,7 @@ use Rattle.placement.proofs.closing.tidy.Given as goal
 
 abbrev pub invariant-loop-scan : goal.invariant-loop-scan
 invariant-loop-scan g l =
-    (l.scan.to ≤ l.scan.at)
-    × (l.scan.at ≤ 524288)
+    (l.scan.at ≤ 524288)
     × (length (g.S.Store.words l.store) ≡ length (g.S.Store.words l.initial.store))
     × (g.S.Store.rest l.store ≡ g.S.Store.rest l.initial.store)
     × ((A : Arrangement) → Sound A → Displays (g.S.Store.words l.initial.store) A

@@ -4,13 +4,13 @@ use Rattle.layout.specs.Chains.{Chained}
 use Rattle.placement.proofs.Merges.{Merges}
 use Rattle.placement.proofs.gaps.combine.Given as goal
 
-abbrev pub invariant-loop-at : goal.invariant-loop-at
-invariant-loop-at g l =
-    (l.at < 262144) × (l.next < 262144)
+abbrev pub invariant-loop-link : goal.invariant-loop-link
+invariant-loop-link g l =
+    (l.link.before < 262144)
     × (length (g.S.Store.words l.store) ≡ length (g.S.Store.words l.initial.store))
     × (g.S.Store.rest l.store ≡ g.S.Store.rest l.initial.store)
     × ((gs : List Piece) → Chained (g.S.Store.words l.initial.store) gs
-    → Merges (g.S.Store.words l.initial.store) (g.S.Store.words l.store) gs l.at l.next)
+    → Merges (g.S.Store.words l.initial.store) (g.S.Store.words l.store) gs l.link.before l.link.next)
 
-abbrev pub decreases-loop-at : goal.decreases-loop-at
-decreases-loop-at g l = 262144 - l.next
+abbrev pub decreases-loop-link : goal.decreases-loop-link
+decreases-loop-link g l = 262144 - l.link.next
