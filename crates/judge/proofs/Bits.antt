@@ -1,91 +1,38 @@
 -- Marks kept as bits of words: one put up or taken down, and none up.
-use Rattle.std.proofs.Common.{◌≡◌, ℕ, zero, suc, ◌+◌, ◌-◌, ◌*◌, ◌/◌, ◌%◌, ◌^◌, ◌<◌, ◌≤◌, max, Bool, true, false, eqb, List, length, get_or, set, replicate, sym, refl, ap, ◌∙◌, arith, length-set, get_or-set_other, get_or-set_same, ext_get_or}
-use Prim.Native.Nat.{differ}
-use native.Mathlib.Nat.{div-eq_of_lt}
+use Rattle.std.proofs.Common.{◌≡◌, ℕ, ◌+◌, ◌*◌, ◌/◌, ◌%◌, ◌^◌, ◌<◌, ◌≤◌, Bool, true, false, eqb, List, length, get_or, set, sym, ap, ◌∙◌, arith, length-set, get_or-set_other, get_or-set_same, ext_get_or}
 use native.Mathlib.Decide.{dec_lt}
-use lib.Bits.{bit_or, bit_xor, or_step, xor_step, or_shr, xor_shr}
+use lib.Bits.{bit_or, bit_xor}
 use lib.ListN.{get_or-eq_default}
-use Rattle.std.proofs.lemmas.Nat.{pow_pos, pow-add, shl-shr, shr-shr, pow_below}
+use Rattle.std.proofs.lemmas.Bool.{false≢true, eq-eqb, eqb-false, eqb-true}
+use Rattle.std.proofs.lemmas.List.{set_past}
 use Rattle.std.proofs.lemmas.List.FromFn.{length-map-range_with_len, get_or-map-range_with_len}
-use Rattle.std.proofs.lemmas.Bool.Decides.{nat_tests}
+use Rattle.std.proofs.lemmas.Nat.Bits.{bit_at_or, bit_at_xor, bit_at-pow_other, bit_at-pow_same, bit_at-zero, same_from_bits_below}
 use Rattle.judge.specs.Marks.{bit_at, flags, Down, Zeros}
-
-bit_of_or : (a b j : ℕ) → bit_or a b / 2 ^ j % 2 ≡ max (a / 2 ^ j % 2) (b / 2 ^ j % 2)
-bit_of_or a b j =
-    ap (λ (x : ℕ). x % 2) (or_shr a b j ∙ or_step (a / 2 ^ j) (b / 2 ^ j)) ∙ last (bit_or (a / 2 ^ j / 2) (b / 2 ^ j / 2)) (a / 2 ^ j) (b / 2 ^ j)
-  where
-    last : (q x y : ℕ) → (q * 2 + max (x % 2) (y % 2)) % 2 ≡ max (x % 2) (y % 2)
-    last q x y = omega arith
-
-differ_low : (q x y : ℕ) → x < 2 → y < 2 → (q * 2 + differ x y) % 2 ≡ differ x y
-differ_low q zero zero h k = omega arith
-differ_low q zero (suc zero) h k = omega arith
-differ_low q zero (suc (suc y)) h k = absurd (omega arith)
-differ_low q (suc zero) zero h k = omega arith
-differ_low q (suc zero) (suc zero) h k = omega arith
-differ_low q (suc zero) (suc (suc y)) h k = absurd (omega arith)
-differ_low q (suc (suc x)) y h k = absurd (omega arith)
-
-bit_of_xor : (a b j : ℕ) → bit_xor a b / 2 ^ j % 2 ≡ differ (a / 2 ^ j % 2) (b / 2 ^ j % 2)
-bit_of_xor a b j =
-    ap (λ (x : ℕ). x % 2) (xor_shr a b j ∙ xor_step (a / 2 ^ j) (b / 2 ^ j))
-    ∙ differ_low (bit_xor (a / 2 ^ j / 2) (b / 2 ^ j / 2)) (a / 2 ^ j % 2) (b / 2 ^ j % 2) (omega arith) (omega arith)
-
-differ_none : (x : ℕ) → differ x 0 ≡ x
-differ_none zero = refl
-differ_none (suc x) = refl
-
-pow_same : (k : ℕ) → 2 ^ k / 2 ^ k % 2 ≡ 1
-pow_same k =
-    let e : 2 ^ k ≡ 1 * 2 ^ k = omega arith in
-    ap (λ (x : ℕ). x / 2 ^ k % 2) e ∙ ap (λ (x : ℕ). x % 2) (shl-shr 1 k)
-
-pow_other : (k j : ℕ) → (j ≡ k → ⊥) → 2 ^ k / 2 ^ j % 2 ≡ 0
-pow_other k j n =
-    elim (dec_lt j k) [
-      | yes l ↦
-          let e : k ≡ suc (k - suc j) + j = omega arith in
-          let t : 2 ^ suc (k - suc j) % 2 ≡ 0 = omega arith in
-          ap (λ (x : ℕ). 2 ^ x / 2 ^ j % 2) e
-          ∙ ap (λ (x : ℕ). x / 2 ^ j % 2) (pow-add 2 (suc (k - suc j)) j)
-          ∙ ap (λ (x : ℕ). x % 2) (shl-shr (2 ^ suc (k - suc j)) j) ∙ t
-      | no l ↦ ap (λ (x : ℕ). x % 2) (div-eq_of_lt (pow_below k j (omega arith)))
-    ]
 
 -- a bit is set, or turned
 pub or_here : (w k : ℕ) → bit_at (bit_or w (2 ^ k)) k ≡ true
-or_here w k =
-    let e : bit_or w (2 ^ k) / 2 ^ k % 2 ≡ 1 = bit_of_or w (2 ^ k) k ∙ ap (max (w / 2 ^ k % 2)) (pow_same k) ∙ one (w / 2 ^ k) in
-    ap (λ (x : ℕ). eqb x 1) e
-  where
-    one : (x : ℕ) → max (x % 2) 1 ≡ 1
-    one x = omega arith
+or_here w k = eq-eqb (bit_or w (2 ^ k) / 2 ^ k % 2) 1 (omega (arith, bit_at_or w (2 ^ k) k, bit_at-pow_same k))
 
 pub or_there : (w k j : ℕ) → (j ≡ k → ⊥) → bit_at (bit_or w (2 ^ k)) j ≡ bit_at w j
 or_there w k j n =
-    let e : bit_or w (2 ^ k) / 2 ^ j % 2 ≡ w / 2 ^ j % 2 = bit_of_or w (2 ^ k) j ∙ ap (max (w / 2 ^ j % 2)) (pow_other k j n) ∙ same (w / 2 ^ j % 2) in
+    let e : bit_or w (2 ^ k) / 2 ^ j % 2 ≡ w / 2 ^ j % 2 = omega (arith, bit_at_or w (2 ^ k) j, bit_at-pow_other k j n) in
     ap (λ (x : ℕ). eqb x 1) e
-  where
-    same : (x : ℕ) → max x 0 ≡ x
-    same x = omega arith
 
 pub xor_here : (w k : ℕ) → bit_at w k ≡ true → bit_at (bit_xor w (2 ^ k)) k ≡ false
 xor_here w k h =
-    let o : w / 2 ^ k % 2 ≡ 1 = grind (arith, nat_tests) in
-    let e : bit_xor w (2 ^ k) / 2 ^ k % 2 ≡ 0 = bit_of_xor w (2 ^ k) k ∙ ap (differ (w / 2 ^ k % 2)) (pow_same k) ∙ ap (λ (x : ℕ). differ x 1) o in
+    let o : w / 2 ^ k % 2 ≡ 1 = eqb-true (w / 2 ^ k % 2) 1 h in
+    let e : bit_xor w (2 ^ k) / 2 ^ k % 2 ≡ 0 = omega (arith, bit_at_xor w (2 ^ k) k, bit_at-pow_same k) in
     ap (λ (x : ℕ). eqb x 1) e
 
 pub xor_there : (w k j : ℕ) → (j ≡ k → ⊥) → bit_at (bit_xor w (2 ^ k)) j ≡ bit_at w j
 xor_there w k j n =
-    let e : bit_xor w (2 ^ k) / 2 ^ j % 2 ≡ w / 2 ^ j % 2 = bit_of_xor w (2 ^ k) j ∙ ap (differ (w / 2 ^ j % 2)) (pow_other k j n) ∙ differ_none (w / 2 ^ j % 2) in
+    let e : bit_xor w (2 ^ k) / 2 ^ j % 2 ≡ w / 2 ^ j % 2 = omega (arith, bit_at_xor w (2 ^ k) j, bit_at-pow_other k j n) in
     ap (λ (x : ℕ). eqb x 1) e
 
 -- ── The list of marks ─────────────────────────────────────────────────
 
 no_bit : (w k : ℕ) → w ≡ 0 → bit_at w k ≡ false
-no_bit w k e =
-    let z : 0 / 2 ^ k ≡ 0 = div-eq_of_lt (pow_pos k) in
-    ap (λ (x : ℕ). eqb (x / 2 ^ k % 2) 1) e ∙ ap (λ (x : ℕ). eqb (x % 2) 1) z
+no_bit w k e = ap (λ (x : ℕ). eqb (x / 2 ^ k % 2) 1) e ∙ ap (λ (x : ℕ). eqb x 1) (bit_at-zero k)
 
 pub length_flags : (ws : List ℕ) → length (flags ws) ≡ 64 * length ws
 unfolding flags
@@ -101,6 +48,17 @@ getD_flags ws s =
           let m : length ws ≤ s / 64 = omega arith in
           get_or-eq_default (flags ws) false n ∙ sym (no_bit (get_or ws (s / 64) 0) (s % 64) (get_or-eq_default ws 0 m))
     ]
+
+-- past the last mark none is up, and putting one there up or down changes nothing
+pub none_past : (ws : List ℕ) (s : ℕ) → length ws ≤ s / 64 → get_or (flags ws) s false ≡ false
+none_past ws s h = getD_flags ws s ∙ no_bit (get_or ws (s / 64) 0) (s % 64) (get_or-eq_default ws 0 h)
+
+pub up_within : (ws : List ℕ) (s : ℕ) → get_or (flags ws) s false ≡ true → s / 64 < length ws
+up_within ws s u =
+    elim (dec_lt (s / 64) (length ws)) [ yes l ↦ l | no l ↦ absurd (false≢true (sym (none_past ws s (omega arith)) ∙ u)) ]
+
+pub set_past_marks : (ws : List ℕ) (s : ℕ) (b : Bool) → length ws ≤ s / 64 → flags ws ≡ set (flags ws) s b
+set_past_marks ws s b h = sym (set_past (flags ws) s b (omega (arith, length_flags ws)))
 
 pub zeros_down : (ws : List ℕ) → Zeros ws → Down (flags ws)
 zeros_down ws h s = getD_flags ws s ∙ no_bit (get_or ws (s / 64) 0) (s % 64) (h (s / 64))
@@ -147,36 +105,15 @@ set_flags ws s w b l h o =
             ∙ o (i % 64) d
             ∙ ap (λ (k : ℕ). bit_at (get_or ws k 0) (i % 64)) (sym z)
 
-pub all_zeros : (n : ℕ) → Zeros (replicate n 0)
-all_zeros zero zero = refl
-all_zeros zero (suc k) = refl
-all_zeros (suc n) zero = refl
-all_zeros (suc n) (suc k) = all_zeros n k
-
 -- ── No mark is up ─────────────────────────────────────────────────────
-
-no_bits : (n w : ℕ) → w < 2 ^ n → ((k : ℕ) → k < n → w / 2 ^ k % 2 ≡ 0) → w ≡ 0
-no_bits zero w l h = omega arith
-no_bits (suc n) w l h =
-    let z : w / 2 ^ 0 % 2 ≡ 0 = h 0 (omega arith) in
-    let half : w / 2 < 2 ^ n = omega arith in
-    let r : w / 2 ≡ 0 =
-    no_bits n (w / 2) half
-    (λ k m. ap (λ (x : ℕ). x % 2) (shr-shr w 1 k ∙ ap (λ (x : ℕ). w / 2 ^ x) (one k)) ∙ h (suc k) (omega arith)) in
-    omega arith
-  where
-    one : (k : ℕ) → 1 + k ≡ suc k
-    one k = omega arith
 
 pub down_zero : (ws : List ℕ) (k : ℕ) → get_or ws k 0 < 2 ^ 64 → Down (flags ws) → get_or ws k 0 ≡ 0
 down_zero ws k fit h =
-    no_bits 64 (get_or ws k 0) fit (λ j m.
+    same_from_bits_below 64 (get_or ws k 0) 0 fit (omega arith) (λ j m.
     let q : (64 * k + j) / 64 ≡ k = omega arith in
     let r : (64 * k + j) % 64 ≡ j = omega arith in
     let b : bit_at (get_or ws k 0) j ≡ false =
     sym (getD_flags ws (64 * k + j) ∙ ap (λ (x : ℕ). bit_at (get_or ws x 0) ((64 * k + j) % 64)) q ∙ ap (bit_at (get_or ws k 0)) r)
     ∙ h (64 * k + j) in
-    low (get_or ws k 0 / 2 ^ j) b)
-  where
-    low : (x : ℕ) → eqb (x % 2) 1 ≡ false → x % 2 ≡ 0
-    low x e = grind (arith, nat_tests)
+    let n : get_or ws k 0 / 2 ^ j % 2 ≡ 1 → ⊥ = eqb-false (get_or ws k 0 / 2 ^ j % 2) 1 b in
+    omega (arith, bit_at-zero j))

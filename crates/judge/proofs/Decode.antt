@@ -1,6 +1,8 @@
 -- A codeword passes exactly when it shows a placed tree whose blocks lie in S, and then the marks of the tree's pieces are taken down.
-use Rattle.std.proofs.Common.{◌≡◌, ℕ, zero, suc, ◌+◌, ◌-◌, ◌^◌, ◌<◌, ◌≤◌, Bool, true, false, cond, List, [], ◌∷◌, map, length, get_or, set, ℤ, Some, None, Option, sym, refl, ap, ◌∙◌, subst, arith}
-use native.Mathlib.Decide.{dec_lt, dec_le}
+use Rattle.std.proofs.Common.{◌≡◌, ℕ, zero, suc, ◌+◌, ◌-◌, ◌^◌, ◌<◌, ◌≤◌, Bool, true, false, cond, List, [], ◌∷◌, map, length, get_or, set, ℤ, Some, None, Option, sym, refl, ap, ◌∙◌, subst, inl, inr, arith}
+use Rattle.std.proofs.lemmas.Bool.{cases_eq}
+use Rattle.std.proofs.lemmas.Option.{none-some}
+use native.Mathlib.Decide.{dec_le}
 use lib.Signed.{mag}
 use Rattle.codeword.specs.Codeword.{packed, unpacked}
 use Rattle.codeword.specs.declared.Codeword.{Codeword}
@@ -13,15 +15,8 @@ use Rattle.layout.proofs.Cover.{each-++}
 use Rattle.judge.specs.Arrays.{and_then, coded, count, first, is_label, run, visit, visit_block}
 use Rattle.judge.specs.Tiles.{tile_size}
 use Rattle.judge.proofs.Labels.{Label, label_fields, label_yes}
-use Rattle.judge.proofs.Starts.{Sized, clears, clears-++, no_some}
+use Rattle.judge.proofs.Starts.{Sized, clears, clears-++}
 use Rattle.judge.proofs.Steps.{block_codes, block_data, block_unlabelled, block_unmarked, block_unnamed, visit_none, visit_nothing, visit_some}
-
-same? : (a b : ℕ) → Dec (a ≡ b)
-same? a b =
-    elim (dec_lt a b) [
-      | yes l ↦ no (λ (e : a ≡ b). omega arith)
-      | no l ↦ elim (dec_lt b a) [ yes k ↦ no (λ (e : a ≡ b). omega arith) | no k ↦ yes (omega arith) ]
-    ]
 
 -- ── Runs ──────────────────────────────────────────────────────────────
 
@@ -40,7 +35,7 @@ module _ {X : Type 0} (f : ℕ → List Bool → Option (List Bool)) (h : X → 
       ∙ sym (clears-++ (h x) (concat (map h xs)) ms)
 
   then_some : {X Y : Type 0} (o : Option X) (g : X → Option Y) (y : Y) → and_then o g ≡ Some y → (x : X) × (o ≡ Some x) × (g x ≡ Some y)
-  then_some None g y e = absurd (no_some y e)
+  then_some None g y e = absurd (none-some y e)
   then_some (Some x) g y e = (x, refl, e)
 
   pub run_reads : ((a : ℕ) (ms ms' : List Bool) → f a ms ≡ Some ms' → (x : X) × P a x × Q x)
@@ -218,7 +213,7 @@ module _ (ws : List ℕ) (few : length ws ≤ 2 ^ 18) where
   visit_reads zero a ms ms' e =
       elim (dec_le (get_or ws a 0) 0) [
         | yes z ↦ (tt, omega arith, tt)
-        | no z ↦ absurd (no_some ms' (sym (visit_none zero ws a ms refl (λ (q : get_or ws a 0 ≡ 0). omega arith)) ∙ e))
+        | no z ↦ absurd (none-some ms' (sym (visit_none zero ws a ms refl (λ (q : get_or ws a 0 ≡ 0). omega arith)) ∙ e))
       ]
   visit_reads (suc d) a ms ms' e =
       let rec : (ns : List Bool) → run (visit (suc d - 1) ws) (first (get_or ws a 0)) (count (get_or ws a 0)) ns ≡ Some ms'
@@ -237,18 +232,18 @@ module _ (ws : List ℕ) (few : length ws ≤ 2 ^ 18) where
           → (get_or ws a 0 ≡ 0 → ⊥) → (l : Bool) → is_label (length ws) (get_or ws a 0) ≡ l → (m : Bool) → get_or ms (first (get_or ws a 0) - 1) false ≡ m
           → (r : Bool) → coded (get_or ws a 0) ≡ r → Read (suc d) a
       go rec nz false l m q r c =
-          absurd (no_some ms' (sym (visit_some (suc d) ws a ms (omega arith) nz ∙ block_unlabelled (visit (suc d - 1) ws) ws a ms l) ∙ e))
+          absurd (none-some ms' (sym (visit_some (suc d) ws a ms (omega arith) nz ∙ block_unlabelled (visit (suc d - 1) ws) ws a ms l) ∙ e))
       go rec nz true l false q r c =
-          absurd (no_some ms' (sym (visit_some (suc d) ws a ms (omega arith) nz ∙ block_unmarked (visit (suc d - 1) ws) ws a ms q) ∙ e))
+          absurd (none-some ms' (sym (visit_some (suc d) ws a ms (omega arith) nz ∙ block_unmarked (visit (suc d - 1) ws) ws a ms q) ∙ e))
       go rec nz true l true q false c =
-          elim (same? (get_or ws (first (get_or ws a 0) - 1) 0) a) [
-            | no n ↦ absurd (no_some ms' (sym (visit_some (suc d) ws a ms (omega arith) nz ∙ block_unnamed (visit (suc d - 1) ws) ws a ms n) ∙ e))
-            | yes b ↦ read_data d a l b c
+          elim (cases_eq (get_or ws (first (get_or ws a 0) - 1) 0) a) [
+            | inr n ↦ absurd (none-some ms' (sym (visit_some (suc d) ws a ms (omega arith) nz ∙ block_unnamed (visit (suc d - 1) ws) ws a ms n) ∙ e))
+            | inl b ↦ read_data d a l b c
           ]
       go rec nz true l true q true c =
-          elim (same? (get_or ws (first (get_or ws a 0) - 1) 0) a) [
-            | no n ↦ absurd (no_some ms' (sym (visit_some (suc d) ws a ms (omega arith) nz ∙ block_unnamed (visit (suc d - 1) ws) ws a ms n) ∙ e))
-            | yes b ↦ read_codes d a l b c
+          elim (cases_eq (get_or ws (first (get_or ws a 0) - 1) 0) a) [
+            | inr n ↦ absurd (none-some ms' (sym (visit_some (suc d) ws a ms (omega arith) nz ∙ block_unnamed (visit (suc d - 1) ws) ws a ms n) ∙ e))
+            | inl b ↦ read_codes d a l b c
                 (rec (set ms (first (get_or ws a 0) - 1) false)
                 (sym (visit_some (suc d) ws a ms (omega arith) nz ∙ block_codes (visit (suc d - 1) ws) ws a ms l q b c) ∙ e))
           ]

@@ -1,10 +1,10 @@
 -- What the header, or the first word of a gap, says.
 use Rattle.std.proofs.Common.{◌≡◌, ℕ, ◌^◌, ◌<◌, ◌≤◌, Bool, true, false, cond, ltb, List, get_or, Some, None, Option, sym, refl, ap, ◌∙◌, arith}
+use Rattle.std.proofs.lemmas.Option.{none-some, same_Some}
 use Rattle.std.proofs.lemmas.Bool.{cond-false, cond-true}
 use Rattle.std.proofs.lemmas.Bool.Decides.{nat_tests}
 use Rattle.judge.specs.Tiles.{gap_at, head_of, high, is_gap, low}
-use Rattle.judge.specs.declared.tiles.Head.{Head}
-use Rattle.judge.proofs.Starts.{no_some, some_same}
+use Rattle.codeword.specs.declared.head.Head.{Head}
 
 -- one that says what w says
 pub record Says (h : Head) (w : ℕ) : Type 0 where
@@ -21,16 +21,16 @@ module _ (b : Bool) (w : ℕ) where
     where
       go : (q : Bool) → b ≡ q → b ≡ false
       go false p = p
-      go true p = absurd (no_some (record { size = low w; next = high w }) (e ∙ ap (λ (z : Bool). way z w) p))
+      go true p = absurd (none-some (record { size = low w; next = high w }) (e ∙ ap (λ (z : Bool). way z w) p))
 
   pub told_some : (h : Head) → Some h ≡ way b w → (b ≡ true) × Says h w
   told_some h e = go b refl
     where
       go : (q : Bool) → b ≡ q → (b ≡ true) × Says h w
-      go false p = absurd (no_some h (sym (e ∙ ap (λ (z : Bool). way z w) p)))
+      go false p = absurd (none-some h (sym (e ∙ ap (λ (z : Bool). way z w) p)))
       go true p =
           let s : h ≡ record { size = low w; next = high w } =
-          some_same h (record { size = low w; next = high w }) (e ∙ ap (λ (z : Bool). way z w) p) in
+          same_Some h (record { size = low w; next = high w }) (e ∙ ap (λ (z : Bool). way z w) p) in
           (p, record { size = ap (λ (k : Head). k.size) s; next = ap (λ (k : Head). k.next) s })
 
   pub tells_none : b ≡ false → None ≡ way b w

@@ -9,3 +9,4 @@ pub mod Visits
 pub mod Decode
 pub mod Whole
 pub mod Verdict
+pub mod Ways

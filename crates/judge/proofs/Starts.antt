@@ -4,22 +4,15 @@ use mathlib.Core.List.Permᴰ
 use mathlib.Core.List.{Permᴰ}
 use native.Mathlib.Decide.{dec_lt}
 use lib.ListN.{get_or-eq_default}
+use Rattle.std.proofs.lemmas.Bool.{both_ways}
 use Rattle.std.proofs.lemmas.Bool.Decides.{nat_tests}
+use Rattle.std.proofs.lemmas.Option.{none-some, same_Some}
 use Rattle.layout.specs.Arrangement.{Piece}
 use Rattle.layout.specs.Sound.{Each}
 use Rattle.layout.proofs.Order.{Tile, idle, size, used, useds}
 use Rattle.ledger.specs.Trees.{sum}
 use Rattle.judge.specs.Arrays.{and_then}
 use Rattle.judge.specs.Marks.{Down}
-
-pub no_some : {X : Type 0} (x : X) → ◌≡◌ {A = Option X} None (Some x) → ⊥
-no_some x e = let z : ◌≡◌ {A = ℕ} 0 1 = cc in omega arith
-
-pub some_same : {X : Type 0} (x y : X) → Some x ≡ Some y → x ≡ y
-some_same x y e = cc
-
-pub not_both : (b : Bool) → b ≡ true → b ≡ false → ⊥
-not_both b p q = let z : ◌≡◌ {A = ℕ} 0 1 = cc in omega arith
 
 abbrev pub clears : List Piece → List Bool → Option (List Bool)
 clears [] ms = Some ms
@@ -65,7 +58,7 @@ flag_none true h = absurd (omega arith)
 flag_none false h = refl
 
 in_range : (ms : List Bool) (s : ℕ) → get_or ms s false ≡ true → s < length ms
-in_range ms s h = elim (dec_lt s (length ms)) [ yes l ↦ l | no l ↦ absurd (not_both (get_or ms s false) h (get_or-eq_default ms false (omega arith))) ]
+in_range ms s h = elim (dec_lt s (length ms)) [ yes l ↦ l | no l ↦ absurd (both_ways (get_or ms s false) (get_or-eq_default ms false (omega arith)) h) ]
 
 cleared : (us vs : List Piece) (ms : List Bool) (s : ℕ) → Marked us ms → get_or ms s false ≡ true
     → ((t : ℕ) → starts t us ≡ here t s + starts t vs) → Marked vs (set ms s false)
@@ -150,7 +143,7 @@ module _ (f : ℕ → ℕ) where
       → Down ms' → Permᴰ us ps
   clears_perm [] [] ms ms' m e k c z = Permᴰ.nil
   clears_perm [] (u ∷ us) ms ms' m e k c z =
-      let b : get_or ms u.start false ≡ false = ap (λ (x : List Bool). get_or x u.start false) (some_same ms ms' c) ∙ z u.start in
+      let b : get_or ms u.start false ≡ false = ap (λ (x : List Bool). get_or x u.start false) (same_Some ms ms' c) ∙ z u.start in
       absurd (omega (arith, m u.start, here_yes u.start u.start refl, ap flag b))
   clears_perm (p ∷ ps) us ms ms' m e k c z =
       go (λ vs n f d. clears_perm ps vs (set ms p.start false) ms' n f k.1 d z) (get_or ms p.start false) refl
@@ -162,7 +155,7 @@ module _ (f : ℕ → ℕ) where
           let c' : clears ps (set ms p.start false) ≡ Some ms' = sym (ap (λ (x : Bool). cond x (clears ps (set ms p.start false)) None) q) ∙ c in
           Permᴰ.trans r.1
           (Permᴰ.cons refl (rec r.0 (cleared us r.0 ms p.start m q r.3) r.2 c'))
-      go rec false q = absurd (no_some ms' (sym (ap (λ (x : Bool). cond x (clears ps (set ms p.start false)) None) q) ∙ c))
+      go rec false q = absurd (none-some ms' (sym (ap (λ (x : Bool). cond x (clears ps (set ms p.start false)) None) q) ∙ c))
 
 -- ── Marks set along the tiles ─────────────────────────────────────────
 

@@ -1,5 +1,6 @@
 -- The scan passes the tiles of a list, and only those.
 use Rattle.std.proofs.Common.{◌≡◌, ℕ, zero, suc, ◌+◌, ◌-◌, ◌*◌, ◌^◌, ◌<◌, ◌≤◌, Bool, true, false, ◌&&◌, eqb, ◌⊎◌, List, [], ◌∷◌, map, length, get_or, set, Some, sym, refl, ap, ◌∙◌, inl, inr, arith}
+use Rattle.std.proofs.lemmas.Option.{none-some, same_Some}
 use native.Mathlib.Decide.{dec_lt, dec_le}
 use Rattle.std.proofs.lemmas.Bool.Decides.{nat_tests}
 use Rattle.layout.specs.Holds.{Chain}
@@ -10,7 +11,7 @@ use Rattle.ledger.specs.Trees.{sum}
 use Rattle.judge.specs.Tiles.{high, is_blank, is_gap, low, outcome, scan, tile_size}
 use Rattle.judge.proofs.Blanks.{blank_zeros, zeros_blank}
 use Rattle.judge.proofs.Steps.{scan_gap, scan_no_gap, scan_block, scan_no_block, scan_end, gap_yes, gap_size, size_pos, scan_zero}
-use Rattle.judge.proofs.Starts.{no_some, some_same, mark_all, Sized}
+use Rattle.judge.proofs.Starts.{mark_all, Sized}
 
 pub record Walked (ws : List ℕ) (x next left : ℕ) (ms ms' : List Bool) : Type 0 where
   pub order : List Tile
@@ -26,12 +27,12 @@ ended : (next left : ℕ) (ms ms' : List Bool) → outcome (eqb next 0 && eqb le
 ended next left ms ms' h = go (eqb next 0 && eqb left 0) refl
   where
     go : (b : Bool) → (eqb next 0 && eqb left 0) ≡ b → (next ≡ 0) × (left ≡ 0) × (ms ≡ ms')
-    go true q = (grind (arith, nat_tests), grind (arith, nat_tests), some_same ms ms' (sym (ap (λ (x : Bool). outcome x ms) q) ∙ h))
-    go false q = absurd (no_some ms' (sym (ap (λ (x : Bool). outcome x ms) q) ∙ h))
+    go true q = (grind (arith, nat_tests), grind (arith, nat_tests), same_Some ms ms' (sym (ap (λ (x : Bool). outcome x ms) q) ∙ h))
+    go false q = absurd (none-some ms' (sym (ap (λ (x : Bool). outcome x ms) q) ∙ h))
 
 pub scan_walks : (k : ℕ) (ws : List ℕ) (x next left : ℕ) (ms ms' : List Bool) → x ≤ length ws → scan k ws x next left ms ≡ Some ms'
     → Walked ws x next left ms ms'
-scan_walks zero ws x next left ms ms' l h = absurd (no_some ms' (sym (scan_zero ws x next left ms) ∙ h))
+scan_walks zero ws x next left ms ms' l h = absurd (none-some ms' (sym (scan_zero ws x next left ms) ∙ h))
 scan_walks (suc k) ws x next left ms ms' l h =
     let rec : (y g t : ℕ) (ns : List Bool) → y ≤ length ws → scan k ws y g t ns ≡ Some ms' → Walked ws y g t ns ms' =
     λ y g t ns b e. scan_walks k ws y g t ns ms' b e in
@@ -62,7 +63,7 @@ scan_walks (suc k) ws x next left ms ms' l h =
                 sized = (refl, r.sized);
                 marks = r.marks;
               }
-          | no f ↦ absurd (no_some ms' (sym (scan_no_block k ws x next left ms lt ne (omega arith)) ∙ h))
+          | no f ↦ absurd (none-some ms' (sym (scan_no_block k ws x next left ms lt ne (omega arith)) ∙ h))
         ]
 
     gap : ((y g t : ℕ) (ns : List Bool) → y ≤ length ws → scan k ws y g t ns ≡ Some ms' → Walked ws y g t ns ms')
@@ -92,7 +93,7 @@ scan_walks (suc k) ws x next left ms ms' l h =
           sized = r.sized;
           marks = r.marks;
         }
-    gap rec lt e false q = absurd (no_some ms' (sym (scan_no_gap k ws x next left ms lt e q) ∙ h))
+    gap rec lt e false q = absurd (none-some ms' (sym (scan_no_gap k ws x next left ms lt e q) ∙ h))
 
 first_low : (a : ℕ) (ts : List Tile) → (first_of (idles a ts) ≡ 0) ⊎ (a ≤ first_of (idles a ts))
 first_low a [] = inl refl

@@ -1,14 +1,14 @@
 -- What each way out of the judge tells of the list.
 use Rattle.std.proofs.Common.{◌≡◌, ℕ, zero, suc, ◌^◌, ◌≤◌, Bool, false, List, length, get_or, replicate, Some, None, Decides, Option, sym, refl, ap, ◌∙◌, arith}
+use Rattle.std.proofs.lemmas.Option.{none-some, same_Some}
 use lib.ListN.{length-replicate}
 use Rattle.layout.specs.Holds.{Holds}
 use Rattle.judge.specs.Arrays.{run, visit}
 use Rattle.judge.specs.Marks.{Down, flags}
 use Rattle.judge.specs.Tiles.{high, low, scan}
-use Rattle.judge.specs.declared.tiles.Head.{Head}
+use Rattle.codeword.specs.declared.head.Head.{Head}
 use Rattle.judge.proofs.Bits.{length_flags}
 use Rattle.judge.proofs.Heads.{Says}
-use Rattle.judge.proofs.Starts.{no_some, some_same}
 use Rattle.judge.proofs.Whole.{Passes, holds_passes, passes_holds}
 
 all_down : (n : ℕ) → Down (replicate n false)
@@ -39,20 +39,20 @@ module _ (ws : List ℕ) (bits : List ℕ) (most : length ws ≤ 2 ^ 18) (room :
       ∙ ap (λ (k : ℕ). scan (suc (length ws)) ws 65 (high (get_or ws 0 0)) k (flags bits)) says.size
 
   pub not_tiled : None ≡ scanned → Holds ws → ⊥
-  not_tiled e H = let p = passes H in no_some p.marked (e ∙ same_scan ∙ p.scanned)
+  not_tiled e H = let p = passes H in none-some p.marked (e ∙ same_scan ∙ p.scanned)
 
   module _ (ms₁ : List Bool) (e : Some ms₁ ≡ scanned) where
     marked_is : (H : Holds ws) → ms₁ ≡ (passes H).marked
-    marked_is H = some_same ms₁ (passes H).marked (e ∙ same_scan ∙ (passes H).scanned)
+    marked_is H = same_Some ms₁ (passes H).marked (e ∙ same_scan ∙ (passes H).scanned)
 
     pub not_sound : None ≡ run (visit 4 ws) 1 64 ms₁ → Holds ws → ⊥
-    not_sound f H = let p = passes H in no_some p.left (f ∙ ap (run (visit 4 ws) 1 64) (marked_is H) ∙ p.visited)
+    not_sound f H = let p = passes H in none-some p.left (f ∙ ap (run (visit 4 ws) 1 64) (marked_is H) ∙ p.visited)
 
     pub decided : (ms₂ : List Bool) → Some ms₂ ≡ run (visit 4 ws) 1 64 ms₁ → 67 ≤ length ws → (r : Bool) → Decides r (Down ms₂) → Decides r (Holds ws)
     decided ms₂ f least r d = (
       (λ t. passes_holds ws (flags bits) enough down least most ms₁ ms₂ (sym (e ∙ same_scan)) (sym f) (d.0 t)),
       (λ H.
           let p = passes H in
-          let same : ms₂ ≡ p.left = some_same ms₂ p.left (f ∙ ap (run (visit 4 ws) 1 64) (marked_is H) ∙ p.visited) in
+          let same : ms₂ ≡ p.left = same_Some ms₂ p.left (f ∙ ap (run (visit 4 ws) 1 64) (marked_is H) ∙ p.visited) in
           d.1 (λ s. ap (λ (ms : List Bool). get_or ms s false) same ∙ p.spent s)),
     )

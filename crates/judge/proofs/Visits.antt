@@ -1,19 +1,11 @@
 -- A codeword that passes: what going down from it comes to.
-use Rattle.std.proofs.Common.{◌≡◌, ℕ, ◌+◌, ◌-◌, ◌<◌, ◌≤◌, Bool, true, false, not, List, length, get_or, set, Some, sym, ◌∙◌, subst}
+use Rattle.std.proofs.Common.{◌≡◌, ℕ, ◌+◌, ◌-◌, ◌<◌, ◌≤◌, Bool, true, false, List, length, get_or, set, Some, sym, ◌∙◌, subst}
 use Rattle.codeword.specs.Codeword.{unpacked}
 use Rattle.codeword.specs.Lawful.{lawful}
 use Rattle.codeword.specs.declared.Codeword.{Codeword}
 use Rattle.judge.specs.Arrays.{coded, run, visit}
 use Rattle.judge.proofs.Labels.{is_label_yes}
 use Rattle.judge.proofs.Steps.{block_codes, block_data, visit_some}
-
-pub not_false : (b : Bool) → not b ≡ true → b ≡ false
-not_false true e = sym e
-not_false false e = sym (let z : true ≡ true = e in λ i. false)
-
-pub not_true : (b : Bool) → not b ≡ false → b ≡ true
-not_true true e = λ i. true
-not_true false e = sym e
 
 -- the block of a codeword at a lies in S, begins at a mark and names a
 pub record Passed (ws : List ℕ) (a : ℕ) (ms : List Bool) (c : Codeword) : Type 0 where

@@ -1,7 +1,7 @@
 -- Going over the gaps and blocks of a list from a first address to its end.
 use Rattle.std.specs.Prelude.{ℕ, zero, suc, ◌+◌, ◌-◌, ◌/◌, ◌%◌, ◌^◌, Bool, true, false, cond, ◌&&◌, List, length, Some, None, Option, ◌==◌, nat_le, nat_lt, slice_index, slice_index_or, slice_set}
 use Rattle.codeword.specs.Codeword.{field}
-use Rattle.judge.specs.declared.tiles.Head.{Head}
+use Rattle.codeword.specs.declared.head.Head.{Head}
 
 -- the two numbers in the header, or in the first word of a gap: words, and the address of the next gap
 abbrev pub low : ℕ → ℕ

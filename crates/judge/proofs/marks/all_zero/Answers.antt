@@ -1,25 +1,24 @@
-use Rattle.std.proofs.Common.{◌≡◌, ℕ, true, false, length, refl, arith}
+use Rattle.std.proofs.Common.{◌≡◌, ℕ, ◌<◌, ◌≢◌, Bool, true, false, List, length, MatchBool, Decides, refl, arith, rules, tests}
+use Rattle.std.specs.List.{HoldsAt, AllWithin}
+use Rattle.std.proofs.lemmas.Bool.{false≢true}
+use Rattle.std.proofs.lemmas.Iterator.{cases_from_all, YieldsList-from_slice}
 use native.Mathlib.Decide.{dec_lt}
 use lib.ListN.{get_or-eq_default}
 use Rattle.judge.specs.Marks.{Zeros}
 use Rattle.judge.proofs.Bits.{down_zero, zeros_down}
 use Rattle.judge.proofs.marks.all_zero.Goals as goal
 
-not_true : {X : Type 0} → false ≡ true → X
-not_true e = absurd (let z : ◌≡◌ {A = ℕ} 0 1 = cc in omega arith)
-
-pub returns-then-word-ne0 : goal.returns-then-word-ne0
-returns-then-word-ne0 c =
-    let ws = c.args.words.now in
-    let k = c.loop-word.word-index in
-    record {
-      zeros = (not_true, λ h. absurd (c.if-word-ne0.true (h k)));
-      marks = (not_true, λ h. absurd (c.if-word-ne0.true (down_zero ws k (omega arith) h)));
-    }
+zeros_told : (r : Bool) (ws : List ℕ)
+    → MatchBool r (AllWithin (λ x. x ≡ 0) ws 0 (length ws)) ((k : ℕ) × (k < length ws) × HoldsAt (λ x. x ≢ 0) ws k) → Decides r (Zeros ws)
+zeros_told true ws h =
+    ((λ _ k. elim (dec_lt k (length ws)) [ yes l ↦ h k 0 (omega arith) l | no l ↦ get_or-eq_default ws 0 (omega arith) ]), (λ _. refl))
+zeros_told false ws h = ((λ e. absurd (false≢true e)), (λ z. absurd (h.2 0 (z h.0))))
 
 pub returns : goal.returns
 returns c =
     let ws = c.args.words.now in
-    let all : Zeros c.args.words.now =
-    λ k. elim (dec_lt k (length c.args.words.now)) [ yes l ↦ c.loop-word.invariant k (omega arith) | no l ↦ get_or-eq_default ws 0 (omega arith) ] in
-    record { zeros = (λ e. all, λ h. refl); marks = (λ e. zeros_down ws all, λ h. refl) }
+    let by_call =
+    cases_from_all _ _ _ (λ x. x ≡ 0) (λ x. x ≢ 0) c.all.ensures.ran (YieldsList-from_slice ws cc)
+    (λ x q k. search (rules, tests)) (λ x q k. search (rules, tests)) in
+    let told = zeros_told c.all.result ws by_call in
+    record { zeros = told; marks = (λ e. zeros_down ws (told.0 e), λ m. told.1 (λ k. down_zero ws k (omega (arith, c.type_inv.words k)) m)) }

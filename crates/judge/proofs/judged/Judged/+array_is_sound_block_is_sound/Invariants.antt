@@ -1,7 +1,7 @@
 use Rattle.std.proofs.Common.{◌≡◌, ◌+◌, ◌-◌, ◌*◌}
 use Rattle.judge.specs.Arrays.{run, visit}
 use Rattle.judge.specs.Marks.{flags}
-use Rattle.judge.proofs.arrays.+array_is_sound_block_is_sound.Given as goal
+use Rattle.judge.proofs.judged.Judged.+array_is_sound_block_is_sound.Given as goal
 
 abbrev pub decreases-array_is_sound : goal.decreases-array_is_sound
 decreases-array_is_sound l = 2 * l.levels
@@ -10,6 +10,8 @@ abbrev pub decreases-block_is_sound : goal.decreases-block_is_sound
 decreases-block_is_sound l = 2 * l.levels + 1
 
 abbrev pub invariant-block_is_sound-loop-at : goal.invariant-block_is_sound-loop-at
-invariant-block_is_sound-loop-at l =
-    run (visit l.levels l.words) l.at (l.from + l.n - l.at) (flags l.marks.bits)
-    ≡ run (visit l.levels l.words) l.from l.n (flags l.initial.marks.bits)
+invariant-block_is_sound-loop-at l = record {
+  same_words : l.self.words.now ≡ l.fn.self.words.now;
+  rest : run (visit l.levels l.fn.self.words.now) l.at (l.from + l.n - l.at) (flags l.self.marks.bits)
+      ≡ run (visit l.levels l.fn.self.words.now) l.from l.n (flags l.fn.self.marks.bits);
+}
