@@ -11,9 +11,9 @@ use store::Store;
 impl<S: Store> Keeper<S> {
     /// One data element, as an item of the kind.
     pub fn read<K: Kind>(&self, trace: &Trace, subscript: i32) -> Result<K::Item, Refusal>
-        ensures { Answers (S.Store.words self.now.store) (on trace.now (Read K.Kind.number subscript)) (read_of K.Kind.word result) }
+        ensures { Answers (S.Store.words self.now.store) (on trace.now (Read K.Kind.TYPE subscript)) (read_of K.Kind.word result) }
     {
-        elements::read::<S, K>(&self.store, trace, K::type_number(), subscript)
+        elements::read::<S, K>(&self.store, trace, K::TYPE, subscript)
     }
 
     /// Replaces one data element by an item of the kind.
@@ -23,11 +23,11 @@ impl<S: Store> Keeper<S> {
         subscript: i32,
         item: K::Item,
     ) -> Result<(), Refusal>
-        ensures booked { Books (S.Store.words self.old.store) (on trace.now (Write K.Kind.number subscript (K.Kind.word item))) (done_of result) (S.Store.words self.new.store) }
+        ensures booked { Books (S.Store.words self.old.store) (on trace.now (Write K.Kind.TYPE subscript (K.Kind.word item))) (done_of result) (S.Store.words self.new.store) }
         ensures count { length (S.Store.words self.new.store) ≡ length (S.Store.words self.old.store) }
         ensures rest { S.Store.rest self.new.store ≡ S.Store.rest self.old.store }
     {
-        elements::write::<S, K>(&mut self.store, trace, K::type_number(), subscript, item)
+        elements::write::<S, K>(&mut self.store, trace, K::TYPE, subscript, item)
     }
 
     /// Copies as many data elements as the list has, from the subscript on, into the list. Refused, the list stays as it was.
@@ -37,10 +37,10 @@ impl<S: Store> Keeper<S> {
         subscript: i32,
         items: &mut [K::Item],
     ) -> Result<(), Refusal>
-        ensures booked { Answers (S.Store.words self.now.store) (on trace.now (RowRead K.Kind.number subscript (length items.old))) (row_of K.Kind.word result items.new) }
+        ensures booked { Answers (S.Store.words self.now.store) (on trace.now (RowRead K.Kind.TYPE subscript (length items.old))) (row_of K.Kind.word result items.new) }
         ensures list { UnlessGranted result (items.new ≡ items.old) }
     {
-        elements::read_row::<S, K>(&self.store, trace, K::type_number(), subscript, items)
+        elements::read_row::<S, K>(&self.store, trace, K::TYPE, subscript, items)
     }
 
     /// Replaces as many data elements as the list has, from the subscript on.
@@ -50,11 +50,11 @@ impl<S: Store> Keeper<S> {
         subscript: i32,
         items: &[K::Item],
     ) -> Result<(), Refusal>
-        ensures booked { Books (S.Store.words self.old.store) (on trace.now (RowWrite K.Kind.number subscript (map K.Kind.word items.now))) (done_of result) (S.Store.words self.new.store) }
+        ensures booked { Books (S.Store.words self.old.store) (on trace.now (RowWrite K.Kind.TYPE subscript (map K.Kind.word items.now))) (done_of result) (S.Store.words self.new.store) }
         ensures count { length (S.Store.words self.new.store) ≡ length (S.Store.words self.old.store) }
         ensures rest { S.Store.rest self.new.store ≡ S.Store.rest self.old.store }
     {
-        elements::write_row::<S, K>(&mut self.store, trace, K::type_number(), subscript, items)
+        elements::write_row::<S, K>(&mut self.store, trace, K::TYPE, subscript, items)
     }
 
     /// Gives the block at a trace another base; nothing else of its codeword changes.

@@ -12,5 +12,5 @@ mod span;
 mod tidy;
 
 pub use keeper::Keeper;
+pub use layout::LEAST;
 pub use load::{loads_come_out_alike, saved_is_carried_over};
-pub use make::LEAST;

@@ -8,16 +8,9 @@ ghost use Rattle.std.specs.Prelude.{◌≡◌, length, slice_index};
 
 use crate::keeper::Keeper;
 use booking::Refusal;
+use codeword::Head;
+use layout::{FIRST, LEAST};
 use store::{Store, clear, put, word};
-
-/// The fewest words that a keeper can be made over: a header, 64 names, and a block of one word with its back-reference.
-pub const LEAST: u64 = 67;
-
-/// The first address behind the names.
-const FIRST: u64 = 65;
-
-/// One more than the largest number that 18 bits hold.
-const FIELD: u64 = 0x4_0000;
 
 impl<S: Store> Keeper<S> {
     /// Makes the keeper anew: every name labels nothing, and one gap takes up all the words behind the names.
@@ -30,10 +23,12 @@ impl<S: Store> Keeper<S> {
         if count < LEAST {
             return Err(Refusal::WrongCount);
         }
-        let free = count - FIRST;
+        let size = count - FIRST;
+        let header = Head { size, next: FIRST };
+        let gap = Head { size, next: 0 };
         clear(&mut self.store, 0, count);
-        put(&mut self.store, 0, free + FIELD * FIRST);
-        put(&mut self.store, FIRST, free);
+        put(&mut self.store, 0, header.word());
+        put(&mut self.store, FIRST, gap.word());
         Ok(())
     }
 
@@ -42,6 +37,6 @@ impl<S: Store> Keeper<S> {
         ensures header { result ≡ field 0 18 (slice_index (S.Store.words self.now.store) 0) }
         ensures free { Holds (S.Store.words self.now.store) → result ≡ free (length (S.Store.words self.now.store)) (held_trees (S.Store.words self.now.store)) }
     {
-        word(&self.store, 0) % FIELD
+        Head::unpack(word(&self.store, 0)).size
     }
 }

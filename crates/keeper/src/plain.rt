@@ -8,7 +8,8 @@ use crate::keeper::Keeper;
 use booking::{Refusal, Trace, Words};
 use store::Store;
 
-// The same calls with plain words, in a block of any type: the type is given by its number.
+// The same calls with plain words, in a block of any type, given by its number: callers that know no kinds need them. Both forms go by
+// the same functions of `elements`.
 impl<S: Store> Keeper<S> {
     /// One data element of a block of the type.
     pub fn read_word(&self, trace: &Trace, number: u64, subscript: i32) -> Result<u64, Refusal>

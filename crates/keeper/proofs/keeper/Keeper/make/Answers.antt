@@ -1,20 +1,28 @@
-use Rattle.std.proofs.Common.{sym, refl, ap, ◌∙◌, arith}
+use Rattle.std.proofs.Common.{◌≡◌, ◌+◌, ◌-◌, ◌*◌, set, sym, ap, ◌∙◌, arith}
 use Rattle.layout.proofs.Made.{made_not, made_so}
 use Rattle.keeper.proofs.Makes.{made_blank}
 use Rattle.keeper.proofs.keeper.Keeper.make.Goals as goal
 
-pub returns-then-count-lt-LEAST : goal.returns-then-count-lt-LEAST
-returns-then-count-lt-LEAST g c =
-    let e = made_not (g.S.Store.words c.args.self.now.store) (omega arith) in
-    record { reply = sym (ap (λ x. x.0) e); words = sym (ap (λ x. x.1) e); rest = refl }
+pub returns-then-count-lt-LEAST-clause-reply : goal.returns-then-count-lt-LEAST-clause-reply
+returns-then-count-lt-LEAST-clause-reply g c = sym (ap (λ x. x.0) (made_not (g.S.Store.words c.args.self.now.store) (omega arith)))
 
-pub returns : goal.returns
-returns g c =
+pub returns-then-count-lt-LEAST-clause-words : goal.returns-then-count-lt-LEAST-clause-words
+returns-then-count-lt-LEAST-clause-words g c = sym (ap (λ x. x.1) (made_not (g.S.Store.words c.args.self.now.store) (omega arith)))
+
+pub returns-clause-reply : goal.returns-clause-reply
+returns-clause-reply g c =
     let ws = g.S.Store.words c.args.self.now.store in
-    let e = made_so ws (omega arith) (omega (arith, g.S.Store.counted c.args.self.now.store)) in
-    record {
-      reply = sym (ap (λ x. x.0) e);
-      words = made_blank ws _ _ _ c.count-count.result c.count-count.ensures c.clear.ensures.after c.put.ensures.after c.put-2.ensures.after
-          ∙ sym (ap (λ x. x.1) e);
-      rest = c.put-2.ensures.rest ∙ c.put.ensures.rest ∙ c.clear.ensures.rest;
-    }
+    let few = g.S.Store.counted c.args.self.now.store in
+    sym (ap (λ x. x.0) (made_so ws (omega arith) (omega (arith, few))))
+
+pub returns-clause-words : goal.returns-clause-words
+returns-clause-words g c =
+    let ws = g.S.Store.words c.args.self.now.store in
+    let n = c.count-count.result in
+    let few = g.S.Store.counted c.args.self.now.store in
+    let header : c.word.result ≡ n - 65 + 262144 * 65 = omega (arith, c.word.ensures, few) in
+    let gap : c.word-2.result ≡ n - 65 = omega (arith, c.word-2.ensures, few) in
+    made_blank ws _ _ _ n c.count-count.ensures c.clear.ensures.after
+    (c.put.ensures.after ∙ ap (set (g.S.Store.words c.clear.new.store) 0) header)
+    (c.put-2.ensures.after ∙ ap (set (g.S.Store.words c.put.new.store) 65) gap)
+    ∙ sym (ap (λ x. x.1) (made_so ws (omega arith) (omega (arith, few))))

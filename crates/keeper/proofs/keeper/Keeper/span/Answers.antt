@@ -1,5 +1,5 @@
-use Rattle.std.proofs.Common.{ℤ, Some, Err, ap, ◌∙◌, w16, SFits, rules}
-use Rattle.std.proofs.lemmas.Result.{err_from_is_err_and}
+use Rattle.std.proofs.Common.{ℤ, Some, ap, ◌∙◌, w16, SFits, rules}
+use Rattle.walk.proofs.Refusals.{refusal_kept}
 use Rattle.booking.specs.Bookings.{Span, Spans, granted}
 use Rattle.layout.proofs.Place.{turned_away}
 use Rattle.layout.specs.Results.{span_of}
@@ -9,8 +9,7 @@ use Rattle.keeper.proofs.keeper.Keeper.span.Goals as goal
 
 pub returns-in_err-at : goal.returns-in_err-at
 returns-in_err-at g c =
-    let p = err_from_is_err_and c.from_residual.result c.from_residual.ensures.1 in
-    λ h. ap span_of (p.1 ∙ ap Err p.2) ∙ turned_away (g.S.Store.words c.args.self.now.store) h c.args.trace.now _ c.in_err-at.ensures Span
+    λ h. ap span_of (refusal_kept _ _ c.from_residual.ensures.1) ∙ turned_away (g.S.Store.words c.args.self.now.store) h c.args.trace.now _ c.in_err-at.ensures Span
 
 pub returns-then-code-eq0 : goal.returns-then-code-eq0
 returns-then-code-eq0 g c =

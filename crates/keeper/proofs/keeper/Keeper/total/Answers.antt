@@ -1,10 +1,8 @@
-use Rattle.std.proofs.Common.{◌≡◌, ◌%◌, get_or, ◌∙◌, arith}
+use Rattle.std.proofs.Common.{ap, ◌∙◌}
 use Rattle.codeword.specs.Codeword.{field}
 use Rattle.layout.proofs.Laws.{lawful}
 use Rattle.keeper.proofs.keeper.Keeper.total.Goals as goal
 
-pub returns : goal.returns
-returns g c =
-    let ws = g.S.Store.words c.args.self.now.store in
-    let e : c.word.result % 262144 ≡ field 0 18 (get_or ws 0 0) = omega (arith, c.word.ensures) in
-    record { header = e; free = λ h. e ∙ lawful.total_is_free ws h }
+pub returns-clause-free : goal.returns-clause-free
+returns-clause-free g c =
+    λ h. ap (λ k. k.size) c.unpack.ensures ∙ ap (field 0 18) c.word.ensures ∙ lawful.total_is_free (g.S.Store.words c.args.self.now.store) h
