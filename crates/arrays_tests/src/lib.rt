@@ -3,24 +3,13 @@
 
 #[cfg(test)]
 mod tests {
-    use booking::{Amounts, Refusal, Trace};
+    use booking::{Amounts, Refusal, Shape, Trace, Vouchers, Words};
     use keeper::Keeper;
     use std::process::Abort;
     use std::test::Fail;
     use store::{Store, WordBank, word};
 
-    // The number and the step of a refusal; 0 where there is none.
-    fn told<T: Drop>(answer: Result<T, Refusal>) -> (u8, u8) {
-        match answer {
-            Ok(_) => (0, 0),
-            Err(refusal) => (refusal.number(), refusal.step().unwrap_or(0)),
-        }
-    }
-
-    // The trace one subscript deeper.
-    fn below(trace: Trace, subscript: i32) -> Result<Trace, Refusal> {
-        Ok(trace.down(subscript)?)
-    }
+    // Codewords, headers and gaps are made by hand here and below, so that no test leans on the packing that it tests.
 
     // The codeword of a row of amounts from subscript 1 on.
     fn row(first: u64, n: u64) -> u64 {
@@ -39,17 +28,16 @@ mod tests {
         }
     }
 
-    // Takes a row of n amounts from subscript 1 on, and tells what came of it.
-    fn take_row<S: Store>(keeper: &mut Keeper<S>, trace: &Trace, n: u64) -> (u8, u8) {
-        told(keeper.take(trace, n, 1, false, 1))
+    // Takes a row of n amounts from subscript 1 on.
+    fn take_row<S: Store>(keeper: &mut Keeper<S>, trace: &Trace, n: u64) -> Result<(), Refusal> {
+        keeper.take(trace, Shape::row::<Amounts>(1, n))
     }
 
     // Three amounts under name 1 and two under name 2.
-    fn two_rows<S: Store>(rt: &impl Abort, keeper: &mut Keeper<S>) -> Result<(), Fail> {
-        assert_eq!(rt; told(keeper.make()), (0, 0));
-        assert_eq!(rt; take_row(keeper, &Trace::new(1)?, 3), (0, 0));
-        assert_eq!(rt; take_row(keeper, &Trace::new(2)?, 2), (0, 0));
-        Ok(())
+    fn two_rows<S: Store>(keeper: &mut Keeper<S>) -> Result<(), Refusal> {
+        keeper.make()?;
+        take_row(keeper, &Trace::new(1)?, 3)?;
+        take_row(keeper, &Trace::new(2)?, 2)
     }
 
     #[test]
@@ -58,7 +46,7 @@ mod tests {
         let mut keeper = Keeper {
             store: WordBank { lent: &mut words },
         };
-        two_rows(&rt, &mut keeper)?;
+        assert_eq!(rt; two_rows(&mut keeper), Ok(()));
         stands(
             &rt,
             &keeper,
@@ -77,15 +65,11 @@ mod tests {
         Ok(())
     }
 
-    // Free 1, then take 3 of n: what came of it.
-    fn third_of<S: Store>(
-        rt: &impl Abort,
-        keeper: &mut Keeper<S>,
-        n: u64,
-    ) -> Result<(u8, u8), Fail> {
-        two_rows(rt, keeper)?;
-        assert_eq!(rt; told(keeper.free(&Trace::new(1)?)), (0, 0));
-        Ok(take_row(keeper, &Trace::new(3)?, n))
+    // Two rows, the first freed again, and then what taking n amounts under name 3 answers.
+    fn third_of<S: Store>(rt: &impl Abort, keeper: &mut Keeper<S>, n: u64) -> Result<(), Refusal> {
+        assert_eq!(rt; two_rows(keeper), Ok(()));
+        assert_eq!(rt; keeper.free(&Trace::new(1)?), Ok(()));
+        take_row(keeper, &Trace::new(3)?, n)
     }
 
     #[test]
@@ -94,7 +78,7 @@ mod tests {
         let mut keeper = Keeper {
             store: WordBank { lent: &mut words },
         };
-        assert_eq!(rt; third_of(&rt, &mut keeper, 5)?, (0, 0));
+        assert_eq!(rt; third_of(&rt, &mut keeper, 5), Ok(()));
         stands(
             &rt,
             &keeper,
@@ -108,10 +92,10 @@ mod tests {
                 (74, gap(1, 0)),
             ],
         );
-        assert_eq!(rt; third_of(&rt, &mut keeper, 6)?, (0, 0));
+        assert_eq!(rt; third_of(&rt, &mut keeper, 6), Ok(()));
         stands(&rt, &keeper, &[(0, 0), (3, row(69, 6))]);
         assert_eq!(rt; keeper.total(), 0);
-        assert_eq!(rt; third_of(&rt, &mut keeper, 7)?, (11, 0));
+        assert_eq!(rt; third_of(&rt, &mut keeper, 7), Err(Refusal::NoRoom));
         stands(&rt, &keeper, &[(0, gap(7, 65)), (65, gap(4, 72)), (3, 0)]);
         Ok(())
     }
@@ -122,20 +106,17 @@ mod tests {
         let mut keeper = Keeper {
             store: WordBank { lent: &mut words },
         };
-        two_rows(&rt, &mut keeper)?;
+        assert_eq!(rt; two_rows(&mut keeper), Ok(()));
         let one = Trace::new(1)?;
-        assert_eq!(rt;
-            told(keeper.write_row::<Amounts>(&one, 1, &[5, 6, 7])),
-            (0, 0)
-        );
-        assert_eq!(rt; take_row(&mut keeper, &one, 7), (11, 0));
-        assert_eq!(rt; take_row(&mut keeper, &one, u64::MAX), (11, 0));
+        assert_eq!(rt; keeper.write_row::<Amounts>(&one, 1, &[5, 6, 7]), Ok(()));
+        assert_eq!(rt; take_row(&mut keeper, &one, 7), Err(Refusal::NoRoom));
+        assert_eq!(rt; take_row(&mut keeper, &one, u64::MAX), Err(Refusal::NoRoom));
         stands(
             &rt,
             &keeper,
             &[(1, row(66, 3)), (66, 5), (67, 6), (68, 7), (0, gap(3, 72))],
         );
-        assert_eq!(rt; take_row(&mut keeper, &one, 6), (0, 0));
+        assert_eq!(rt; take_row(&mut keeper, &one, 6), Ok(()));
         stands(
             &rt,
             &keeper,
@@ -150,9 +131,9 @@ mod tests {
         let mut keeper = Keeper {
             store: WordBank { lent: &mut words },
         };
-        two_rows(&rt, &mut keeper)?;
-        assert_eq!(rt; told(keeper.free(&Trace::new(1)?)), (0, 0));
-        assert_eq!(rt; told(keeper.free(&Trace::new(2)?)), (0, 0));
+        assert_eq!(rt; two_rows(&mut keeper), Ok(()));
+        assert_eq!(rt; keeper.free(&Trace::new(1)?), Ok(()));
+        assert_eq!(rt; keeper.free(&Trace::new(2)?), Ok(()));
         stands(
             &rt,
             &keeper,
@@ -163,7 +144,7 @@ mod tests {
                 (72, gap(3, 0)),
             ],
         );
-        assert_eq!(rt; take_row(&mut keeper, &Trace::new(3)?, 4), (0, 0));
+        assert_eq!(rt; take_row(&mut keeper, &Trace::new(3)?, 4), Ok(()));
         stands(
             &rt,
             &keeper,
@@ -179,14 +160,14 @@ mod tests {
         let mut keeper = Keeper {
             store: WordBank { lent: &mut words },
         };
-        assert_eq!(rt; told(keeper.make()), (0, 0));
-        assert_eq!(rt; take_row(&mut keeper, &Trace::new(2)?, 1), (0, 0));
-        assert_eq!(rt; told(keeper.take(&Trace::new(1)?, 2, 1, true, 0)), (0, 0));
-        let older = below(Trace::new(1)?, 2)?;
-        let newer = below(Trace::new(1)?, 1)?;
-        assert_eq!(rt; take_row(&mut keeper, &older, 1), (0, 0));
-        assert_eq!(rt; told(keeper.free(&Trace::new(2)?)), (0, 0));
-        assert_eq!(rt; take_row(&mut keeper, &newer, 3), (0, 0));
+        assert_eq!(rt; keeper.make(), Ok(()));
+        assert_eq!(rt; take_row(&mut keeper, &Trace::new(2)?, 1), Ok(()));
+        assert_eq!(rt; keeper.take(&Trace::new(1)?, Shape::table(1, 2)), Ok(()));
+        let older = Trace::new(1)?.down(2)?;
+        let newer = Trace::new(1)?.down(1)?;
+        assert_eq!(rt; take_row(&mut keeper, &older, 1), Ok(()));
+        assert_eq!(rt; keeper.free(&Trace::new(2)?), Ok(()));
+        assert_eq!(rt; take_row(&mut keeper, &newer, 3), Ok(()));
         stands(
             &rt,
             &keeper,
@@ -204,24 +185,42 @@ mod tests {
         Ok(())
     }
 
+    // No elements from 0 on, of a type.
+    fn none_of(codes: bool, kind: u64) -> Shape {
+        Shape {
+            base: 0,
+            length: 0,
+            codes,
+            kind,
+        }
+    }
+
     #[test]
     fn refused_at_each_door(rt: HostRuntime) -> Result<(), Fail> {
         let mut words = [9u64; 75];
         let mut keeper = Keeper {
             store: WordBank { lent: &mut words },
         };
-        two_rows(&rt, &mut keeper)?;
+        assert_eq!(rt; two_rows(&mut keeper), Ok(()));
         let one = Trace::new(1)?;
         let three = Trace::new(3)?;
-        assert_eq!(rt; told(keeper.free(&three)), (5, 1));
-        assert_eq!(rt; told(keeper.free(&below(three, 1)?)), (5, 1));
-        assert_eq!(rt; told(keeper.take(&one, 0, -32_769, false, 0)), (9, 0));
-        assert_eq!(rt; told(keeper.take(&one, 0, 32_768, false, 0)), (9, 0));
-        assert_eq!(rt; told(keeper.take(&one, 0, 0, false, 3)), (9, 0));
-        assert_eq!(rt; told(keeper.take(&one, 0, 0, true, 1)), (9, 0));
-        assert_eq!(rt; told(keeper.take(&one, 0, 0, true, u64::MAX)), (9, 0));
-        assert_eq!(rt; told(keeper.take(&one, 0, 32_767, false, 2)), (10, 0));
-        assert_eq!(rt; told(keeper.take(&below(one, 1)?, 1, 0, false, 0)), (6, 1));
+        assert_eq!(rt; keeper.free(&three), Err(Refusal::Unlabelled(1)));
+        assert_eq!(rt; keeper.free(&three.down(1)?), Err(Refusal::Unlabelled(1)));
+        let doors = [
+            (Shape::row::<Words>(-32_769, 0), Refusal::BadField),
+            (Shape::row::<Words>(32_768, 0), Refusal::BadField),
+            (none_of(false, 3), Refusal::BadField),
+            (none_of(true, 1), Refusal::BadField),
+            (none_of(true, u64::MAX), Refusal::BadField),
+            (Shape::row::<Vouchers>(32_767, 0), Refusal::BadLength),
+        ];
+        for (shape, refusal) in doors {
+            assert_eq!(rt; keeper.take(&one, shape), Err(refusal));
+        }
+        assert_eq!(rt;
+            keeper.take(&one.down(1)?, Shape::row::<Words>(0, 1)),
+            Err(Refusal::WrongSort(1))
+        );
         stands(
             &rt,
             &keeper,
@@ -236,17 +235,18 @@ mod tests {
         let mut keeper = Keeper {
             store: WordBank { lent: &mut words },
         };
-        assert_eq!(rt; told(keeper.make()), (0, 0));
+        assert_eq!(rt; keeper.make(), Ok(()));
         let mut trace = Trace::new(64)?;
-        assert_eq!(rt; told(keeper.take(&trace, 1, -5, true, 0)), (0, 0));
-        trace = below(trace, -5)?;
-        assert_eq!(rt; told(keeper.take(&trace, 1, -5, true, 0)), (0, 0));
-        trace = below(trace, -5)?;
-        assert_eq!(rt; told(keeper.take(&trace, 1, -5, true, 0)), (0, 0));
-        trace = below(trace, -5)?;
-        assert_eq!(rt; told(keeper.take(&trace, 1, -5, true, 0)), (9, 0));
-        assert_eq!(rt; told(keeper.take(&trace, 1, -5, false, 2)), (0, 0));
-        assert_eq!(rt; told(keeper.free(&Trace::new(64)?)), (0, 0));
+        for _ in 0..3 {
+            assert_eq!(rt; keeper.take(&trace, Shape::table(-5, 1)), Ok(()));
+            trace = trace.down(-5)?;
+        }
+        assert_eq!(rt;
+            keeper.take(&trace, Shape::table(-5, 1)),
+            Err(Refusal::BadField)
+        );
+        assert_eq!(rt; keeper.take(&trace, Shape::row::<Vouchers>(-5, 1)), Ok(()));
+        assert_eq!(rt; keeper.free(&Trace::new(64)?), Ok(()));
         stands(
             &rt,
             &keeper,

@@ -1,15 +1,18 @@
 // A month is saved, and goes on in another house's store.
-use crate::report::{answer, tell};
-use booking::{Amounts, Refusal, Trace};
+use booking::{Amounts, Refusal, Shape, Trace};
 use keeper::Keeper;
 use std::io;
 use store::{ByteBank, Store, WordBank};
+use telling::{answer, tell};
 
 /// The words of either house's store.
 const COUNT: usize = 80;
 
+/// The first house's amounts, in cents.
+const AMOUNTS: [i64; 4] = [700_00, -80_00, 9_00, 10];
+
 /// Saves one house's words, loads them into the other's store, reads the same there, and tries a damaged copy.
-pub fn run(rt: &HostRuntime) -> io::Result<()> {
+pub fn run(rt: &impl Print) -> io::Result<()> {
     println!(rt; "")?;
     println!(rt; "A MONTH IS CARRIED OVER")?;
     println!(rt; "")?;
@@ -40,19 +43,15 @@ fn book_and_save(list: &mut [u64]) -> Result<(), Refusal> {
     };
     let trace = Trace::new(1)?;
     keeper.make()?;
-    keeper.take(&trace, 4, -1, false, 1)?;
-    keeper.write_row::<Amounts>(&trace, -1, &[700_00, -80_00, 9_00, 10])?;
+    keeper.take(&trace, Shape::row::<Amounts>(-1, AMOUNTS.len() as u64))?;
+    keeper.write_row::<Amounts>(&trace, -1, &AMOUNTS)?;
     keeper.save(list)
 }
 
 // Reads the row under name 1.
-fn read_on<S: Store>(rt: &HostRuntime, keeper: &Keeper<S>) -> io::Result<()> {
-    let mut amounts = [0i64; 4];
-    let outcome = match Trace::new(1) {
-        Ok(trace) => keeper.read_row::<Amounts>(&trace, -1, &mut amounts),
-        Err(refusal) => Err(refusal),
-    };
-    match outcome {
+fn read_on<S: Store>(rt: &impl Print, keeper: &Keeper<S>) -> io::Result<()> {
+    let mut amounts = [0; AMOUNTS.len()];
+    match keeper.read_row::<Amounts>(&Trace::new(1).unwrap(), -1, &mut amounts) {
         Ok(()) => println!(rt; "  Name 1 holds, in cents: {amounts:?}"),
         Err(refusal) => tell(rt, refusal),
     }

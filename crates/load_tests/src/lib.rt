@@ -9,6 +9,7 @@ mod tests {
     use store::{ByteBank, WordBank};
 
     // Fields of a codeword, and of the header and a gap's first word: a length, or the next gap's address; the digits; the type.
+    // The lists are made of them by hand, so that no test leans on the packing that it tests.
     const N: u64 = 1 << 18;
 
     const P: u64 = 1 << 52;
@@ -41,28 +42,34 @@ mod tests {
         words
     }
 
-    // Replaces a word of the list.
-    fn put(words: &mut [u64; 82], at: usize, word: u64) {
-        if at < 82 {
-            words[at] = word;
+    // The good list with some of its words replaced.
+    fn changed(words: &[(usize, u64)]) -> [u64; 82] {
+        let mut list = good();
+        for (at, word) in words {
+            if let Some(place) = list.get_mut(*at) {
+                *place = *word;
+            }
         }
+        list
     }
 
-    // What a load of the list answers, 0 where it is granted, and the words of the store then, all 7 before.
-    fn loaded(list: &[u64]) -> (u8, [u64; 82]) {
+    // What a load of the list answers, and the words of the store then, all 7 before.
+    fn loaded(list: &[u64]) -> (Result<(), Refusal>, [u64; 82]) {
         let mut words = [7u64; 82];
         let answer = Keeper {
             store: WordBank { lent: &mut words },
         }
         .load(list);
-        match answer {
-            Ok(()) => (0, words),
-            Err(refusal) => (refusal.number(), words),
-        }
+        (answer, words)
+    }
+
+    // The same for a list that is refused: the store stays as it was.
+    fn refused(refusal: Refusal) -> (Result<(), Refusal>, [u64; 82]) {
+        (Err(refusal), [7; 82])
     }
 
     #[test]
-    fn one_word_changed(rt: HostRuntime) {
+    fn one_word_changed_and_taken(rt: HostRuntime) {
         let kept = [
             (3, 0), // nothing changed
             (70, 0xffff_ffff_ffff_ffff), // another amount
@@ -71,11 +78,14 @@ mod tests {
             (1, 66 + 3 * N + R + (1 << 51)), // another base
             (2, 78 + 2 * N + T), // another type
         ];
-        for (at, word) in kept {
-            let mut list = good();
-            put(&mut list, at, word);
-            assert_eq!(rt; loaded(&list), (0, list));
+        for change in kept {
+            let list = changed(&[change]);
+            assert_eq!(rt; loaded(&list), (Ok(()), list));
         }
+    }
+
+    #[test]
+    fn one_word_changed(rt: HostRuntime) {
         let broken = [
             (0, 4 + 71 * N), // T is not the sum of the gaps
             (0, 6 + 71 * N),
@@ -109,27 +119,16 @@ mod tests {
             (66, 0), // a block of no name
             (2, 0),
         ];
-        for (at, word) in broken {
-            let mut list = good();
-            put(&mut list, at, word);
-            assert_eq!(rt; loaded(&list), (12, [7; 82]));
+        for change in broken {
+            assert_eq!(rt; loaded(&changed(&[change])), refused(Refusal::Inconsistent));
         }
-    }
-
-    // The good list with three of its words replaced.
-    fn changed(words: [(usize, u64); 3]) -> [u64; 82] {
-        let mut list = good();
-        for (at, word) in words {
-            put(&mut list, at, word);
-        }
-        list
     }
 
     #[test]
     fn several_words_changed(rt: HostRuntime) {
         // The last gap becomes part of the vouchers.
-        let grown = changed([(0, 3 + 71 * N), (71, 3), (2, 78 + 4 * N + 2 * T)]);
-        assert_eq!(rt; loaded(&grown), (0, grown));
+        let grown = changed(&[(0, 3 + 71 * N), (71, 3), (2, 78 + 4 * N + 2 * T)]);
+        assert_eq!(rt; loaded(&grown), (Ok(()), grown));
         let hostile = [
             [(3, 79 + N), (78, 3), (4, 0)], // a label into the middle of a block, which seems to name it
             [(66, 0), (69, 78), (78, 70 + N + T)], // a block that only a word of data labels
@@ -144,7 +143,7 @@ mod tests {
             ],
         ];
         for words in hostile {
-            assert_eq!(rt; loaded(&changed(words)), (12, [7; 82]));
+            assert_eq!(rt; loaded(&changed(&words)), refused(Refusal::Inconsistent));
         }
     }
 
@@ -174,13 +173,13 @@ mod tests {
 
     #[test]
     fn four_levels_and_lengths(rt: HostRuntime) {
-        assert_eq!(rt; loaded(&nested(0)), (0, nested(0)));
-        assert_eq!(rt; loaded(&nested(74 + N)), (12, [7; 82]));
-        assert_eq!(rt; loaded(&nested(74 + N + R)), (12, [7; 82]));
+        assert_eq!(rt; loaded(&nested(0)), (Ok(()), nested(0)));
+        assert_eq!(rt; loaded(&nested(74 + N)), refused(Refusal::Inconsistent));
+        assert_eq!(rt; loaded(&nested(74 + N + R)), refused(Refusal::Inconsistent));
         let list = good();
-        assert_eq!(rt; loaded(&list[0..81]), (2, [7; 82]));
-        assert_eq!(rt; loaded(&[0; 83]), (2, [7; 82]));
-        assert_eq!(rt; loaded(&[]), (2, [7; 82]));
+        assert_eq!(rt; loaded(&list[0..81]), refused(Refusal::WrongCount));
+        assert_eq!(rt; loaded(&[0; 83]), refused(Refusal::WrongCount));
+        assert_eq!(rt; loaded(&[]), refused(Refusal::WrongCount));
         let mut least = [0u64; 67];
         let mut list = [0u64; 67];
         list[0] = 2 + 65 * N;
@@ -205,11 +204,6 @@ mod tests {
         );
     }
 
-    // The trace one subscript deeper.
-    fn below(trace: Trace, subscript: i32) -> Result<Trace, Refusal> {
-        Ok(trace.down(subscript)?)
-    }
-
     #[test]
     fn from_words_to_bytes(rt: HostRuntime) -> Result<(), Fail> {
         let mut words = good();
@@ -230,7 +224,7 @@ mod tests {
             let mut again = [0u64; 82];
             assert_eq!(rt; keeper.save(&mut again), Ok(()));
             assert_eq!(rt; again, list);
-            let row = below(Trace::new(1)?, 0)?;
+            let row = Trace::new(1)?.down(0)?;
             assert_eq!(rt; keeper.read::<Amounts>(&row, 0), Ok(77));
             assert_eq!(rt; keeper.write::<Amounts>(&row, 0, -1), Ok(()));
             keeper.tidy();
