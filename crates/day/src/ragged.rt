@@ -15,7 +15,7 @@ const VOUCHERS: u64 = 2;
 const SHOWN: usize = 12;
 
 /// Books the table, and shows how its rows move, are read, and change places.
-pub fn run(rt: &impl Print) -> io::Result<()> {
+pub(crate) fn run(rt: &impl Print) -> io::Result<()> {
     let mut words = [0u64; 60];
     let mut bytes = [0u8; 291];
     let mut keeper = Keeper {

@@ -12,7 +12,7 @@ const COUNT: usize = 80;
 const AMOUNTS: [i64; 4] = [700_00, -80_00, 9_00, 10];
 
 /// Saves one house's words, loads them into the other's store, reads the same there, and tries a damaged copy.
-pub fn run(rt: &impl Print) -> io::Result<()> {
+pub(crate) fn run(rt: &impl Print) -> io::Result<()> {
     println!(rt; "")?;
     println!(rt; "A MONTH IS CARRIED OVER")?;
     println!(rt; "")?;
