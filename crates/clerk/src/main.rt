@@ -1,5 +1,8 @@
-// A morning at the keeper: a store is joined from two banks, a keeper is made over it, measured, questioned and saved.
+// The clerk of open items: a morning, a ragged table whose rows move, and a month that is carried over to another house.
 #![tactic(auto)]
+
+mod ragged;
+mod saved;
 
 use std::io;
 use telling::{begin, show};
@@ -7,5 +10,9 @@ use telling::{begin, show};
 fn main(rt: HostRuntime) -> io::Result<()> {
     println!(rt; "THE KEEPER OF OPEN ITEMS")?;
     println!(rt; "")?;
-    show(&rt, &begin(&rt)?)
+    let words = begin(&rt)?;
+    println!(rt; "  Done.")?;
+    show(&rt, &words)?;
+    ragged::run(&rt)?;
+    saved::run(&rt)
 }
