@@ -2,6 +2,9 @@
 #![tactic(auto)]
 
 #[cfg(test)]
+mod work;
+
+#[cfg(test)]
 mod tests {
     use booking::{Amounts, Refusal, Shape, Trace, Vouchers, Words};
     use keeper::Keeper;
@@ -205,7 +208,12 @@ mod tests {
         let one = Trace::new(1)?;
         let three = Trace::new(3)?;
         assert_eq!(rt; keeper.free(&three), Err(Refusal::Unlabelled(1)));
-        assert_eq!(rt; keeper.free(&three.down(1)?), Err(Refusal::Unlabelled(1)));
+        let below_none = three.down(1)?;
+        assert_eq!(rt; keeper.free(&below_none), Err(Refusal::Unlabelled(1)));
+        assert_eq!(rt;
+            keeper.take(&below_none, none_of(true, 1)),
+            Err(Refusal::Unlabelled(1))
+        );
         let doors = [
             (Shape::row::<Words>(-32_769, 0), Refusal::BadField),
             (Shape::row::<Words>(32_768, 0), Refusal::BadField),
@@ -218,7 +226,7 @@ mod tests {
             assert_eq!(rt; keeper.take(&one, shape), Err(refusal));
         }
         assert_eq!(rt;
-            keeper.take(&one.down(1)?, Shape::row::<Words>(0, 1)),
+            keeper.take(&one.down(1)?, none_of(true, 1)),
             Err(Refusal::WrongSort(1))
         );
         stands(
@@ -244,6 +252,11 @@ mod tests {
         assert_eq!(rt;
             keeper.take(&trace, Shape::table(-5, 1)),
             Err(Refusal::BadField)
+        );
+        assert_eq!(rt; keeper.free(&trace), Err(Refusal::Unlabelled(4)));
+        assert_eq!(rt;
+            keeper.take(&Trace::new(64)?.down(-4)?, none_of(true, 1)),
+            Err(Refusal::OutOfBounds(1))
         );
         assert_eq!(rt; keeper.take(&trace, Shape::row::<Vouchers>(-5, 1)), Ok(()));
         assert_eq!(rt; keeper.free(&Trace::new(64)?), Ok(()));
