@@ -2,6 +2,7 @@
 #![tactic(auto)]
 
 mod ragged;
+mod rows;
 mod saved;
 
 use std::io;
@@ -10,9 +11,7 @@ use telling::{begin, show};
 fn main(rt: HostRuntime) -> io::Result<()> {
     println!(rt; "THE KEEPER OF OPEN ITEMS")?;
     println!(rt; "")?;
-    let words = begin(&rt)?;
-    println!(rt; "  Done.")?;
-    show(&rt, &words)?;
+    show(&rt, &begin(&rt)?)?;
     ragged::run(&rt)?;
     saved::run(&rt)
 }

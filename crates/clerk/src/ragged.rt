@@ -1,4 +1,5 @@
 // Open invoices of three customers in a ragged table: rows come and vanish, and the keeper moves the others.
+use crate::rows::{SHOWN, read_row};
 use booking::{Amounts, Refusal, Shape, Trace, Voucher, Vouchers};
 use codeword::Codeword;
 use keeper::Keeper;
@@ -10,9 +11,6 @@ use telling::{answer, element_of, open, tell};
 const INVOICES: u64 = 1;
 
 const VOUCHERS: u64 = 2;
-
-/// The most amounts of a row that are shown.
-const SHOWN: usize = 12;
 
 /// Books the table, and shows how its rows move, are read, and change places.
 pub(crate) fn run(rt: &impl Print) -> io::Result<()> {
@@ -111,7 +109,7 @@ fn grow_second_row<S: Store>(rt: &impl Print, keeper: &mut Keeper<S>) -> io::Res
     println!(rt; "It is taken again, of 40 amounts:")?;
     answer(rt, keeper.take(&row, Shape::row::<Amounts>(1, 40)))?;
     println!(rt;
-        "And of 12 amounts, for which no gap alone has the words, so that the rows close up:"
+        "And of 12 amounts. The words are there, but no gap alone has as many, so the rows close up:"
     )?;
     answer(rt, keeper.take(&row, Shape::row::<Amounts>(1, 12)))
 }
@@ -119,23 +117,15 @@ fn grow_second_row<S: Store>(rt: &impl Print, keeper: &mut Keeper<S>) -> io::Res
 // The amounts of a row, read back as one row.
 fn show_row<S: Store>(rt: &impl Print, keeper: &Keeper<S>, customer: i32) -> io::Result<()> {
     let mut amounts = [0; SHOWN];
-    match read_row(keeper, customer, &mut amounts) {
+    match read_row(
+        keeper,
+        &element_of(INVOICES, customer).unwrap(),
+        1,
+        &mut amounts,
+    ) {
         Ok(read) => println!(rt; "  Row {customer} holds, in cents: {read:?}"),
         Err(refusal) => tell(rt, refusal),
     }
-}
-
-// Reads as many amounts as the row has, up to twelve.
-fn read_row<'a, S: Store>(
-    keeper: &Keeper<S>,
-    customer: i32,
-    amounts: &'a mut [i64; SHOWN],
-) -> Result<&'a [i64], Refusal> {
-    let row = element_of(INVOICES, customer)?;
-    let length = keeper.span(&row)?.map_or(0, |(_, length, _, _)| length);
-    let read = &mut amounts[..length.min(SHOWN as u64) as usize];
-    keeper.read_row::<Amounts>(&row, 1, read)?;
-    Ok(read)
 }
 
 // The first and the third customer change places.
@@ -149,7 +139,7 @@ fn swap_rows<S: Store>(rt: &impl Print, keeper: &mut Keeper<S>) -> io::Result<()
 
 // A voucher is booked, read back, and asked for as an amount.
 fn book_voucher<S: Store>(rt: &impl Print, keeper: &mut Keeper<S>) -> io::Result<()> {
-    println!(rt; "A voucher is taken room for under name {VOUCHERS}, and written:")?;
+    println!(rt; "Room for a voucher is taken under name {VOUCHERS}, and the voucher is written:")?;
     let trace = Trace::new(VOUCHERS).unwrap();
     let voucher = Voucher {
         days: 46_342,

@@ -35,6 +35,7 @@ pub fn begin(rt: &impl Print) -> io::Result<[u64; COUNT]>
     println!(rt; "Saved into a list of {COUNT} words:")?;
     let mut saved = [0; COUNT];
     keeper.save(&mut saved).unwrap();
+    println!(rt; "  Done.")?;
     Ok(saved)
 }
 
