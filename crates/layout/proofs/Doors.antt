@@ -90,7 +90,7 @@ Legal (Exchange h i) d Vacant = Unit {0}
 Legal (Exchange h i) d (Data s b t ws) = Unit {0}
 Legal (Exchange h i) d (Codes s b ps) = (element b h < length ps) × (element b i < length ps)
 
-deletes : (m n l k : ℕ) → l ≡ k → T (not (bad_run m n l || eqb n l)) → (1 ≤ n) × (m + n ≤ k) × (n < k)
+pub deletes : (m n l k : ℕ) → l ≡ k → T (not (bad_run m n l || eqb n l)) → (1 ≤ n) × (m + n ≤ k) × (n < k)
 deletes m n l k e h =
     let u = no_or (bad_run m n l) (eqb n l) h in
     let r = good_run m n l u.0 in

@@ -98,7 +98,7 @@ starts z (suc d) Vacant = 0
 starts z (suc d) (Data s b t vs) = here z s
 starts z (suc d) (Codes s b ps) = here z s
 
-cells_are : (d a : ℕ) (p : Placed d) → cells d a p ≡ tops d a p ++ rest d p
+pub cells_are : (d a : ℕ) (p : Placed d) → cells d a p ≡ tops d a p ++ rest d p
 cells_are zero a p = refl
 cells_are (suc d) a Vacant = refl
 cells_are (suc d) a (Data s b t vs) = refl

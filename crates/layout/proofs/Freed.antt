@@ -55,7 +55,7 @@ module _ (n y : ℕ) where
   fits_within (suc d) (Codes s b ps) g h =
       block_within s (length ps) (covered y (concat (map (pieces d) ps))) g.1 g.2 (some_within (Fits n d) (pieces d) (fits_within d) ps g.4) h
 
-word_here : (y a : ℕ) → covers y (run a 1) ≡ here y a
+pub word_here : (y a : ℕ) → covers y (run a 1) ≡ here y a
 word_here y a =
     elim (cases_eq a y) [
       | inl z ↦ subst (λ (k : ℕ). covers k (run a 1) ≡ here k a) z (covers_yes a a 1 (omega arith) (omega arith) ∙ sym (here_yes a))
@@ -69,7 +69,7 @@ word_here y a =
 module _ (ws : List ℕ) (A : Arrangement) (t : Trace) (at depth : ℕ) (spot : Spot (Placed depth)) (o : Sound A) (s : Displays ws A)
     (st : Stands ws A t at depth spot) where
   -- header, gaps, and the cells with those of the spot apart: no address is that of two
-  once : (y : ℕ)
+  pub once : (y : ℕ)
       → here y 0 + covered y A.gaps + hits y st.before + (here y at + covered y (pieces (suc depth) spot)) + hits y st.after ≤ 1
   once y =
       let C = cells (suc depth) at spot in

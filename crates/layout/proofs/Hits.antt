@@ -55,7 +55,7 @@ module _ (y : ℕ) {X : Type 0} (f : ℕ → X → List Cell) (h : X → List Pi
         covered-++ y (h x) (concat (map h xs)),
       )
 
-no_cover : (y : ℕ) (us : List ℕ) → covered y (concat (map (λ (u : ℕ). []) us)) ≡ 0
+pub no_cover : (y : ℕ) (us : List ℕ) → covered y (concat (map (λ (u : ℕ). []) us)) ≡ 0
 no_cover y [] = refl
 no_cover y (u ∷ us) = no_cover y us
 

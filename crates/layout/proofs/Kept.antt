@@ -278,7 +278,7 @@ freed_sound P t A o a =
     given_sound (λ d q. Vacant) P (λ d q. pieces (suc d) q) (λ d q p g. tt) (λ d q p. pieces_some (suc d) q) (λ y d q p. omega arith) t A o a
 
 module _ {X : Type 0} where
-  delete_length : (m n : ℕ) (xs : List X) → m + n ≤ length xs → length (delete_at m n xs) ≡ length xs - n
+  pub delete_length : (m n : ℕ) (xs : List X) → m + n ≤ length xs → length (delete_at m n xs) ≡ length xs - n
   delete_length m n xs h =
       omega (arith, length-append (take m xs) (drop (m + n) xs), length-take m xs, length-drop (m + n) xs)
 
@@ -288,7 +288,7 @@ module _ {X : Type 0} where
       ∙ ap (λ (zs : List X). take m xs ++ zs) (take-append-drop n (drop m xs))
       ∙ take-append-drop m xs
 
-  delete_covered : (y : ℕ) (f : X → List Piece) (m n : ℕ) (xs : List X)
+  pub delete_covered : (y : ℕ) (f : X → List Piece) (m n : ℕ) (xs : List X)
       → covered y (concat (map f (delete_at m n xs))) + covered y (concat (map f (take n (drop m xs)))) ≡ covered y (concat (map f xs))
   delete_covered y f m n xs =
       omega (
@@ -319,7 +319,7 @@ shrunk_good i n d (Codes s b ps) p g =
       each-++ (Good d) (take m ps) (drop (m + n) ps) (each_take (Good d) m ps g.2) (each_drop (Good d) (m + n) ps g.2),
     )
 
-given_some : (i : ℤ) (n d : ℕ) (q : Spot (Placed d)) → Legal (Delete i n) d q → Each Some (given_up i n d q)
+pub given_some : (i : ℤ) (n d : ℕ) (q : Spot (Placed d)) → Legal (Delete i n) d q → Each Some (given_up i n d q)
 given_some i n d Vacant p = tt
 given_some i n d (Data s b t ws) p = (p.0, tt)
 given_some i n d (Codes s b ps) p = (p.0, concat_some (pieces d) (pieces_some d) (take n (drop (element b i) ps)))
@@ -335,7 +335,7 @@ tail_covered y s l n k h e =
       ap (λ (z : ℕ). covers y (record { start = z; size = n })) (let u : s + (k + 1) ≡ s + 1 + l - n = omega arith in u),
     )
 
-given_leaves : (i : ℤ) (n y d : ℕ) (q : Spot (Placed d)) → Legal (Delete i n) d q
+pub given_leaves : (i : ℤ) (n y d : ℕ) (q : Spot (Placed d)) → Legal (Delete i n) d q
     → covered y (pieces (suc d) (shrunk i n d q)) + covered y (given_up i n d q) ≡ covered y (pieces (suc d) q)
 given_leaves i n y d Vacant p = refl
 given_leaves i n y d (Data s b t ws) p =

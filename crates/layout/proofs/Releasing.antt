@@ -165,13 +165,13 @@ module _ (d : ℕ) (ws : List ℕ) (a : ℕ) (ps : List (Placed d)) (gs : List P
 -- ── A part of a row ────────────────────────────────────────────────────
 
 module _ {X : Type 0} where
-  along_drop : (P : ℕ → X → Type 0) (a m : ℕ) (xs : List X) → m ≤ length xs → Along P a xs → Along P (a + m) (drop m xs)
+  pub along_drop : (P : ℕ → X → Type 0) (a m : ℕ) (xs : List X) → m ≤ length xs → Along P a xs → Along P (a + m) (drop m xs)
   along_drop P a zero xs h p = subst (λ (k : ℕ). Along P k xs) (sym (add-zero a)) p
   along_drop P a (suc m) [] h p = tt
   along_drop P a (suc m) (x ∷ xs) h p =
       subst (λ (k : ℕ). Along P k (drop m xs)) (let e : a + 1 + m ≡ a + suc m = omega arith in e) (along_drop P (a + 1) m xs (omega arith) p.1)
 
-  along_take : (P : ℕ → X → Type 0) (a n : ℕ) (xs : List X) → Along P a xs → Along P a (take n xs)
+  pub along_take : (P : ℕ → X → Type 0) (a n : ℕ) (xs : List X) → Along P a xs → Along P a (take n xs)
   along_take P a zero xs p = tt
   along_take P a (suc n) [] p = tt
   along_take P a (suc n) (x ∷ xs) p = (p.0, along_take P (a + 1) n xs p.1)

@@ -48,7 +48,7 @@ copied_at (suc n) from to ws le k =
     copy_more ws (copied n from to ws) n from to _ le (length_copied n from to ws) (copied_at n from to ws le) refl k
     ∙ ap (λ i. copied_word i from to ws k) (add-one n)
 
-length_renewed : (n at : ℕ) (ws : List ℕ) → length (renewed n at ws) ≡ length ws
+pub length_renewed : (n at : ℕ) (ws : List ℕ) → length (renewed n at ws) ≡ length ws
 unfolding renewed
 length_renewed zero at ws = refl
 length_renewed (suc n) at ws =

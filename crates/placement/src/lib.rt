@@ -13,3 +13,4 @@ pub use chain::free_words;
 pub use closing::tidy;
 pub use finding::room;
 pub use link::{link_gap, link_gap_after};
+pub use mover::{move_down, renew};

@@ -1,0 +1,4 @@
+mod Runs
+mod Shut
+mod Moved
+mod Behind
