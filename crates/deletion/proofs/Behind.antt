@@ -61,7 +61,7 @@ module _ {X : Type 0} (f : ℕ → X → List Cell) (h : X → List Piece) (one 
 
   -- every address is that of at most one word: header, gaps, other cells, the codeword, the back-reference, the three parts, and what lies
   -- below each
-  apart : (z : ℕ) → here z 0 + covered z gs + hits z before + here z at + here z s
+  pub apart : (z : ℕ) → here z 0 + covered z gs + hits z before + here z at + here z s
       + (covers z (run (s + 1) k) + covers z (run a n) + covers z (run (a + n) c))
       + (below z front + below z leaving + below z behind) + hits z after ≤ 1
   apart z =
@@ -77,7 +77,7 @@ module _ {X : Type 0} (f : ℕ → X → List Cell) (h : X → List Piece) (one 
         word_here z s,
       )
 
-  run_both : (z : ℕ) → covers z (run a (n + c)) ≡ covers z (run a n) + covers z (run (a + n) c)
+  pub run_both : (z : ℕ) → covers z (run a (n + c)) ≡ covers z (run a n) + covers z (run (a + n) c)
   run_both z = covers_split z a n c
 
   front_hits : (z : ℕ) → hits z (cells_along f (s + 1) front) ≡ covers z (run (s + 1) k) + below z front
@@ -85,7 +85,7 @@ module _ {X : Type 0} (f : ℕ → X → List Cell) (h : X → List Piece) (one 
       along_hits z f h (one z) (s + 1) front
       ∙ ap (λ (m : ℕ). covers z (run (s + 1) m) + below z front) (let e : length front ≡ k = omega (arith, length-take k xs) in e)
 
-  behind_long : length behind ≡ c
+  pub behind_long : length behind ≡ c
   behind_long = length-drop (k + n) xs
 
   behind_hits : (z b : ℕ) → hits z (cells_along f b behind) ≡ covers z (run b c) + below z behind
@@ -98,7 +98,7 @@ module _ {X : Type 0} (f : ℕ → X → List Cell) (h : X → List Piece) (one 
       (all : Each (Shown ws) (before ++ (cell at old ∷ cell s (back at) ∷ cells_along f (s + 1) xs ++ after)))
       (front_shown : Each (Shown ws) (cells_along f (s + 1) front)) (behind_shown : Each (Shown ws) (cells_along f (a + n) behind))
       (down : Each (Shown us) (cells_along f (a + n) behind) → Each (Shown vs) (cells_along f a behind))
-      (stay : (z : ℕ) → covers z (run a (n + c)) ≡ 0 → below z behind ≡ 0 → get_or vs z 0 ≡ get_or us z 0) where
+      (stay : Each (Shown us) (cells_along f (a + n) behind) → (z : ℕ) → covers z (run a (n + c)) ≡ 0 → below z behind ≡ 0 → get_or vs z 0 ≡ get_or us z 0) where
     abbrev zs : List ℕ
     zs = set vs at (word new)
 
@@ -108,12 +108,18 @@ module _ {X : Type 0} (f : ℕ → X → List Cell) (h : X → List Piece) (one 
       | inr l ↦ absurd (omega (arith, e, here_yes z, ap (here z) (let q : z ≡ 0 = omega arith in q)))
     ]
 
+    -- what leaves lies elsewhere than what is behind it
+    behind_there : Each (Shown us) (cells_along f (a + n) behind)
+    behind_there =
+        each_kept ws us (cells_along f (a + n) behind)
+        (λ z l. let x = behind_hits z (a + n) in let y = apart z in freed z (past_header z (omega arith)) (omega arith)) behind_shown
+
     elsewhere : (z : ℕ) → here z at ≡ 0 → get_or zs z 0 ≡ get_or vs z 0
     elsewhere z e = get_or-set_other vs at z (word new) 0 (λ q. omega (arith, here_yes at, subst (λ (m : ℕ). here m at ≡ 0) q e))
 
     -- words of none of these
     kept : (z : ℕ) → here z at ≡ 0 → covers z (run a (n + c)) ≡ 0 → below z behind ≡ 0 → get_or zs z 0 ≡ get_or us z 0
-    kept z e p q = elsewhere z e ∙ stay z p q
+    kept z e p q = elsewhere z e ∙ stay behind_there z p q
 
     still : (z : ℕ) → here z 0 ≡ 0 → covered z gs ≡ 0 → here z at ≡ 0 → covers z (run a n) ≡ 0 → covers z (run (a + n) c) ≡ 0 → below z leaving ≡ 0 → below z behind ≡ 0
         → get_or zs z 0 ≡ get_or ws z 0
@@ -127,17 +133,12 @@ module _ {X : Type 0} (f : ℕ → X → List Cell) (h : X → List Piece) (one 
         (λ z l.
         let x = o z l in still z (omega arith) (omega arith) (omega arith) (omega arith) (omega arith) (omega arith) (omega arith)) e
 
-    behind_there : Each (Shown us) (cells_along f (a + n) behind)
-    behind_there =
-        each_kept ws us (cells_along f (a + n) behind)
-        (λ z l. let x = behind_hits z (a + n) in let y = apart z in freed z (past_header z (omega arith)) (omega arith)) behind_shown
-
-    pub closed_chained : Chained zs gs'
+    closed_chained : Chained zs gs'
     closed_chained =
         chained_kept us zs gs' (length-set vs at (word new) ∙ same_long)
         (λ y l. let x = apart y in let z = linked y in kept y (omega arith) (omega (arith, run_both y)) (omega arith)) chained
 
-    pub closed_shown : Each (Shown zs) (before ++ (cell at new ∷ cell s (back at) ∷ cells_along f (s + 1) (delete_at k n xs) ++ after))
+    closed_shown : Each (Shown zs) (before ++ (cell at new ∷ cell s (back at) ∷ cells_along f (s + 1) (delete_at k n xs) ++ after))
     closed_shown =
         let own = each_right (Shown ws) before (cell at old ∷ cell s (back at) ∷ cells_along f (s + 1) xs ++ after) all in
         let e : cells_along f (s + 1) (delete_at k n xs) ≡ cells_along f (s + 1) front ++ cells_along f a behind =
@@ -159,3 +160,10 @@ module _ {X : Type 0} (f : ℕ → X → List Cell) (h : X → List Piece) (one 
                 (one_of after (λ z l. omega (arith, apart z)) (each_right (Shown ws) (cells_along f (s + 1) xs) after own.1.1)),
           ),
         )
+
+    -- both, of words that are those
+    pub closed : (us' : List ℕ) → us' ≡ zs → Chained us' gs' × Each (Shown us') (before ++ (cell at new ∷ cell s (back at) ∷ cells_along f (s + 1) (delete_at k n xs) ++ after))
+        × (length us' ≡ length ws)
+    closed us' e =
+        subst (λ (l : List ℕ). Chained l gs' × Each (Shown l) (before ++ (cell at new ∷ cell s (back at) ∷ cells_along f (s + 1) (delete_at k n xs) ++ after))
+        × (length l ≡ length ws)) (sym e) (closed_chained, closed_shown, length-set vs at (word new) ∙ same_long ∙ long)

@@ -2,3 +2,4 @@ mod Runs
 mod Shut
 mod Moved
 mod Behind
+mod Deletes

@@ -1,6 +1,6 @@
 -- The doors of a deletion.
-use Rattle.std.proofs.Common.{◌≡◌, ℕ, ◌+◌, ◌<◌, ◌≤◌, Bool, true, false, cond, not, ◌||◌, T, eqb, ℤ, Ok, Err, Result, sym, refl, ap, ◌∙◌, subst, arith}
-use Rattle.std.proofs.lemmas.Bool.{cond-false, cond-true, eqb-false}
+use Rattle.std.proofs.Common.{◌≡◌, ℕ, ◌+◌, ◌<◌, ◌≤◌, Bool, true, false, cond, not, ◌||◌, T, eqb, ℤ, Ok, Err, Result, sym, refl, ap, ◌∙◌, subst, inl, inr, arith}
+use Rattle.std.proofs.lemmas.Bool.{cases_eq, cond-false, cond-true, eq-eqb, ne_eqb}
 use Rattle.booking.specs.declared.refusal.Refusal.{Refusal}
 use Rattle.booking.specs.declared.refusal.Refusal.TheVariants.{BadLength, OutOfBounds, Unlabelled}
 use Rattle.codeword.specs.Codeword.{unpacked}
@@ -10,53 +10,56 @@ use Rattle.layout.specs.Walks.{and_then, chosen}
 use Rattle.layout.proofs.Doors.{deletes}
 use Rattle.deletion.specs.Leaving.{first_leaving}
 
+-- what the doors of a block come to
+abbrev pub block_doors : Codeword → ℤ → (n step : ℕ) → Result ℕ Refusal
+block_doors c i n step =
+    cond (off c.base c.length i) (Err (OutOfBounds step))
+    (cond (bad_run (element c.base i) n c.length || eqb n c.length) (Err BadLength) (Ok (element c.base i)))
+
 module _ (w : ℕ) (i : ℤ) (n step : ℕ) where
-  abbrev N : ℕ
-  N = (unpacked w).length
+  pub leaving_none : w ≡ 0 → first_leaving w i n step ≡ Err (Unlabelled step)
+  unfolding first_leaving
+  leaving_none e = cond-true _ _ _ (eq-eqb w 0 e)
 
-  abbrev first : ℕ
-  first = element (unpacked w).base i
-
-  abbrev too_long : Bool
-  too_long = bad_run first n N || eqb n N
-
-  -- what the doors come to, by what each of them says
-  abbrev doors : (none outside bad : Bool) → Result ℕ Refusal
-  doors none outside bad = cond none (Err (Unlabelled step)) (cond outside (Err (OutOfBounds step)) (cond bad (Err BadLength) (Ok first)))
-
-  pub leaving_is : first_leaving w i n step ≡ doors (eqb w 0) (off (unpacked w).base N i) too_long
+  pub leaving_block : (w ≡ 0 → ⊥) → first_leaving w i n step ≡ block_doors (unpacked w) i n step
   unfolding first_leaving chosen
-  leaving_is = ap (cond (eqb w 0) (Err (Unlabelled step))) (pick (off (unpacked w).base N i))
+  leaving_block e = cond-false _ _ _ (ne_eqb w 0 e) ∙ pick (off (unpacked w).base (unpacked w).length i)
     where
       pick : (q : Bool)
-          → and_then (cond q (Err (OutOfBounds step)) (Ok first)) (λ k. cond (bad_run k n N || eqb n N) (Err BadLength) (Ok k))
-          ≡ cond q (Err (OutOfBounds step)) (cond too_long (Err BadLength) (Ok first))
+          → and_then (cond q (Err (OutOfBounds step)) (Ok (element (unpacked w).base i)))
+          (λ k. cond (bad_run k n (unpacked w).length || eqb n (unpacked w).length) (Err BadLength) (Ok k))
+          ≡ cond q (Err (OutOfBounds step))
+          (cond (bad_run (element (unpacked w).base i) n (unpacked w).length || eqb n (unpacked w).length) (Err BadLength) (Ok (element (unpacked w).base i)))
       pick true = refl
       pick false = refl
 
   -- elements that leave
   pub record Leaves (k : ℕ) : Type 0 where
     pub labelled : w ≡ 0 → ⊥
-    pub is : k ≡ first
+    pub is : k ≡ element (unpacked w).base i
     pub some : 1 ≤ n
-    pub fits : k + n ≤ N
-    pub not_all : n < N
+    pub fits : k + n ≤ (unpacked w).length
+    pub not_all : n < (unpacked w).length
 
   pub leaves : (k : ℕ) → Ok k ≡ first_leaving w i n step → Leaves k
-  leaves k e = none (eqb w 0) refl (off (unpacked w).base N i) too_long refl (e ∙ leaving_is)
+  leaves k e =
+      elim (cases_eq w 0) [
+        | inl z ↦ absurd (no _ (e ∙ leaving_none z))
+        | inr z ↦ pick z (off (unpacked w).base (unpacked w).length i) (bad_run (element (unpacked w).base i) n (unpacked w).length || eqb n (unpacked w).length) refl (e ∙ leaving_block z)
+      ]
     where
       no : (r : Refusal) → ◌≡◌ {A = Result ℕ Refusal} (Ok k) (Err r) → ⊥
       no r z = let bad : ◌≡◌ {A = ℕ} 0 1 = cc in omega arith
 
-      none : (x : Bool) → eqb w 0 ≡ x → (y z : Bool) → too_long ≡ z → Ok k ≡ doors x y z → Leaves k
-      none true p y z q f = absurd (no _ f)
-      none false p true z q f = absurd (no _ f)
-      none false p false true q f = absurd (no _ f)
-      none false p false false q f =
-          let same : k ≡ first = cc in
-          let d = deletes first n N N refl (subst (λ (b : Bool). T (not b)) (sym q) tt) in
+      pick : (w ≡ 0 → ⊥) → (x y : Bool) → (bad_run (element (unpacked w).base i) n (unpacked w).length || eqb n (unpacked w).length) ≡ y
+          → Ok k ≡ cond x (Err (OutOfBounds step)) (cond y (Err BadLength) (Ok (element (unpacked w).base i))) → Leaves k
+      pick z true y q f = absurd (no _ f)
+      pick z false true q f = absurd (no _ f)
+      pick z false false q f =
+          let same : k ≡ element (unpacked w).base i = cc in
+          let d = deletes (element (unpacked w).base i) n (unpacked w).length (unpacked w).length refl (subst (λ (b : Bool). T (not b)) (sym q) tt) in
           record {
-            labelled = eqb-false w 0 p;
+            labelled = z;
             is = same;
             some = d.0;
             fits = omega (arith, d.1);
