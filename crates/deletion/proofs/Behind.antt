@@ -1,6 +1,6 @@
 -- A block that elements have left: those before stay, those behind went down, and its codeword says how many there are.
 use Rattle.std.proofs.Common.{◌≡◌, ℕ, suc, ◌+◌, ◌-◌, ◌<◌, ◌≤◌, ◌≢◌, List, [], ◌∷◌, ◌++◌, map, length, get_or, take, drop, set, sym, refl, ap, ◌∙◌, subst, inl, inr, arith, length-drop, length-set, length-take, get_or-set_other, get_or-set_same}
-use Rattle.std.proofs.lemmas.Bool.{cases_eq, cases_lt}
+use Rattle.std.proofs.lemmas.Bool.{cases_lt}
 use Rattle.ledger.specs.Lists.{delete_at}
 use Rattle.layout.specs.Arrangement.{Piece, concat}
 use Rattle.layout.specs.Chains.{Chained}
@@ -13,7 +13,7 @@ use Rattle.layout.proofs.Cover.{covers_split, each-++, each_left, each_right}
 use Rattle.layout.proofs.Frame.{cell, other_cells}
 use Rattle.layout.proofs.Freed.{word_here}
 use Rattle.layout.proofs.Hits.{along_hits, here, here_yes, hits}
-use Rattle.layout.proofs.Kept.{cov-++, delete_covered, delete_length}
+use Rattle.layout.proofs.Kept.{cov-++, delete_covered}
 use Rattle.layout.proofs.Rewritten.{each_kept}
 
 -- gaps whose words, and the header, are as they were
@@ -154,8 +154,15 @@ module _ {X : Type 0} (f : ℕ → X → List Cell) (h : X → List Piece) (one 
                 (each-++ (Shown zs) (cells_along f (s + 1) front) (cells_along f a behind)
                 (one_of (cells_along f (s + 1) front) (λ z l. omega (arith, apart z, front_hits z)) front_shown)
                 (other_cells vs at (word new) (cells_along f a behind)
-                (omega (arith, apart at, here_yes at, behind_hits at a, covers_split at a c n, run_both at,
-                ap (λ (m : ℕ). covers at (run a m)) (let q : c + n ≡ n + c = omega arith in q)))
+                (omega (
+                  arith,
+                  apart at,
+                  here_yes at,
+                  behind_hits at a,
+                  covers_split at a c n,
+                  run_both at,
+                  ap (λ (m : ℕ). covers at (run a m)) (let q : c + n ≡ n + c = omega arith in q),
+                ))
                 (down behind_there))))
                 (one_of after (λ z l. omega (arith, apart z)) (each_right (Shown ws) (cells_along f (s + 1) xs) after own.1.1)),
           ),

@@ -1,5 +1,5 @@
 mod Runs
-mod Shut
 mod Moved
 mod Behind
+mod Shown
 mod Deletes

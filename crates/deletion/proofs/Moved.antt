@@ -1,22 +1,22 @@
 -- Elements that go down by n addresses: where they are codewords, the back-references of the blocks that they label follow.
-use Rattle.std.proofs.Common.{◌≡◌, ℕ, zero, suc, ◌+◌, ◌-◌, ◌^◌, ◌<◌, ◌≤◌, List, [], ◌∷◌, ◌++◌, map, length, get_or, set, sym, refl, ap, ◌∙◌, subst, inl, inr, arith}
-use Rattle.std.proofs.lemmas.Bool.{cases_eq, cases_lt, cond-false, cond-true, le-ltb, lt-ltb}
+use Rattle.std.proofs.Common.{◌≡◌, ℕ, zero, suc, ◌+◌, ◌-◌, ◌^◌, ◌<◌, ◌≤◌, List, [], ◌∷◌, map, length, get_or, set, sym, refl, ap, ◌∙◌, subst, arith}
+use Rattle.std.proofs.lemmas.Bool.{cond-false, cond-true, le-ltb, lt-ltb}
 use Rattle.codeword.specs.Codeword.{unpacked}
-use Rattle.layout.specs.Arrangement.{Codes, Data, Piece, Placed, Vacant, concat, pieces, vacant}
+use Rattle.layout.specs.Arrangement.{Codes, Data, Placed, Vacant, concat, pieces, vacant}
 use Rattle.layout.specs.Holds.{Along}
 use Rattle.layout.specs.Released.{run, under}
 use Rattle.layout.specs.Sound.{Each, covered, covers}
-use Rattle.layout.specs.Words.{Cell, back, cells, cells_along, datum_at, label, word, written}
+use Rattle.layout.specs.Words.{Cell, back, cells, cells_along, datum_at, written}
 use Rattle.layout.proofs.Bridge.{Fits}
 use Rattle.layout.proofs.Cells.{Shown, from_cells, to_cells}
 use Rattle.layout.proofs.Cover.{above, among, below, covered-++, covers_yes, each-++, each_left, each_right, lies}
 use Rattle.layout.proofs.Exchanges.{cells_are, code, rest, tops}
 use Rattle.layout.proofs.Frame.{cell}
-use Rattle.layout.proofs.Hits.{here, here_yes, hits, hits-++, hits_cells}
+use Rattle.layout.proofs.Hits.{here, hits, hits-++, hits_cells}
 use Rattle.layout.proofs.Place.{along_get}
 use Rattle.layout.proofs.Rewritten.{each_kept, written-++}
 use Rattle.layout.proofs.Step.{copied_above, copied_below, copied_in}
-use Rattle.layout.proofs.Written.{written_length, written_other, written_shows}
+use Rattle.layout.proofs.Written.{written_other, written_shows}
 use Rattle.placement.proofs.Moves.{copied_at, length_copied}
 use Rattle.placement.specs.Moves.{copied, renewed, renewed_at}
 

@@ -1,5 +1,5 @@
 -- The doors of a deletion.
-use Rattle.std.proofs.Common.{◌≡◌, ℕ, ◌+◌, ◌<◌, ◌≤◌, Bool, true, false, cond, not, ◌||◌, T, eqb, ℤ, Ok, Err, Result, sym, refl, ap, ◌∙◌, subst, inl, inr, arith}
+use Rattle.std.proofs.Common.{◌≡◌, ℕ, ◌+◌, ◌<◌, ◌≤◌, Bool, true, false, cond, not, ◌||◌, T, eqb, ℤ, Ok, Err, Result, sym, refl, ◌∙◌, subst, inl, inr, arith}
 use Rattle.std.proofs.lemmas.Bool.{cases_eq, cond-false, cond-true, eq-eqb, ne_eqb}
 use Rattle.booking.specs.declared.refusal.Refusal.{Refusal}
 use Rattle.booking.specs.declared.refusal.Refusal.TheVariants.{BadLength, OutOfBounds, Unlabelled}
@@ -8,7 +8,7 @@ use Rattle.codeword.specs.declared.Codeword.{Codeword}
 use Rattle.ledger.specs.Doors.{bad_run, element, off}
 use Rattle.layout.specs.Walks.{and_then, chosen}
 use Rattle.layout.proofs.Doors.{deletes}
-use Rattle.deletion.specs.Leaving.{first_leaving}
+use Rattle.deletion.specs.Leaving.{leaving_found}
 
 -- what the doors of a block come to
 abbrev pub block_doors : Codeword → ℤ → (n step : ℕ) → Result ℕ Refusal
@@ -17,12 +17,12 @@ block_doors c i n step =
     (cond (bad_run (element c.base i) n c.length || eqb n c.length) (Err BadLength) (Ok (element c.base i)))
 
 module _ (w : ℕ) (i : ℤ) (n step : ℕ) where
-  pub leaving_none : w ≡ 0 → first_leaving w i n step ≡ Err (Unlabelled step)
-  unfolding first_leaving
+  pub leaving_none : w ≡ 0 → leaving_found w i n step ≡ Err (Unlabelled step)
+  unfolding leaving_found
   leaving_none e = cond-true _ _ _ (eq-eqb w 0 e)
 
-  pub leaving_block : (w ≡ 0 → ⊥) → first_leaving w i n step ≡ block_doors (unpacked w) i n step
-  unfolding first_leaving chosen
+  pub leaving_block : (w ≡ 0 → ⊥) → leaving_found w i n step ≡ block_doors (unpacked w) i n step
+  unfolding leaving_found chosen
   leaving_block e = cond-false _ _ _ (ne_eqb w 0 e) ∙ pick (off (unpacked w).base (unpacked w).length i)
     where
       pick : (q : Bool)
@@ -41,7 +41,7 @@ module _ (w : ℕ) (i : ℤ) (n step : ℕ) where
     pub fits : k + n ≤ (unpacked w).length
     pub not_all : n < (unpacked w).length
 
-  pub leaves : (k : ℕ) → Ok k ≡ first_leaving w i n step → Leaves k
+  pub leaves : (k : ℕ) → Ok k ≡ leaving_found w i n step → Leaves k
   leaves k e =
       elim (cases_eq w 0) [
         | inl z ↦ absurd (no _ (e ∙ leaving_none z))
@@ -66,5 +66,5 @@ module _ (w : ℕ) (i : ℤ) (n step : ℕ) where
             not_all = d.2;
           }
 
-  pub leaving_fits : (k : ℕ) → Ok k ≡ first_leaving w i n step → k + n ≤ (unpacked w).length
+  pub leaving_fits : (k : ℕ) → Ok k ≡ leaving_found w i n step → k + n ≤ (unpacked w).length
   leaving_fits k e = (leaves k e).fits

@@ -7,8 +7,8 @@ use Rattle.ledger.specs.Doors.{bad_run}
 use Rattle.layout.specs.Walks.{and_then, chosen}
 
 -- the first of n elements that leave the block which a word labels, from the one that a subscript selects on; not all leave
-unfoldable pub first_leaving : ℕ → ℤ → ℕ → ℕ → Result ℕ Refusal
-first_leaving w i n step =
+unfoldable pub leaving_found : ℕ → ℤ → ℕ → ℕ → Result ℕ Refusal
+leaving_found w i n step =
     cond (w == 0) (Err (Unlabelled step))
     (and_then (chosen (unpacked w) i step)
     (λ k. cond (bad_run k n (unpacked w).length || n == (unpacked w).length) (Err BadLength) (Ok k)))

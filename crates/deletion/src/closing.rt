@@ -8,7 +8,6 @@ use store::{Store, put};
 
 /// The elements behind `n` that leave go down, the first first, and the codeword at `at` says that the block has `n` fewer. The last
 /// `n` words stay as they are.
-#[tactic(auto, using(placement::proofs::Moves::length_copied, placement::proofs::Moves::length_renewed))]
 pub fn close_up<S: Store>(store: &mut S, at: u64, label: Codeword, element: u64, n: u64)
     requires { InWidth label × (element + n ≤ label.length) }
     ensures words { S.Store.words store.new ≡ shut at label element n (S.Store.words store.old) }

@@ -16,12 +16,7 @@ use walk::walk;
 /// The `n` elements from the one that the subscript selects on leave the block at a trace, with the arrays below them. Those behind
 /// close up, and the block's last `n` words are linked into the chain.
 #[tactic(auto, using(crate::proofs::Runs::leaving_fits))]
-pub fn delete<S: Store>(
-    store: &mut S,
-    trace: &Trace,
-    subscript: i32,
-    n: u64,
-) -> Result<(), Refusal>
+pub fn delete<S: Store>(store: &mut S, trace: &Trace, subscript: i32, n: u64) -> Result<(), Refusal>
     ensures booked { Books (S.Store.words store.old) (on trace.now (Delete subscript n)) (done_of result) (S.Store.words store.new) }
     ensures count { length (S.Store.words store.new) ≡ length (S.Store.words store.old) }
     ensures rest { S.Store.rest store.new ≡ S.Store.rest store.old }
