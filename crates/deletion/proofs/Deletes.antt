@@ -80,7 +80,8 @@ module _ (ws : List ℕ) (h : Holds ws) (t : Trace) (at w : ℕ) (e : Ok at ≡ 
   -- ── The words ────────────────────────────────────────────────────────
 
   module _ (k : ℕ) (f : Ok k ≡ leaving_found w z n j) (c : Codeword) (read : c ≡ unpacked w) (us vs : List ℕ)
-      (rows : c.r ≡ false → us ≡ ws) (tables : c.r ≡ true → Clears (3 - t.depth) ws (c.first + k) n us)
+      (rows : c.r ≡ false → us ≡ ws) (levels m : ℕ) (left : levels ≡ 3 - t.depth) (as_many : m ≡ n)
+      (tables : c.r ≡ true → Clears levels ws (c.first + k) m us)
       (L : Links (shut at c k n us) (c.first + c.length - n) n vs) where
     element_is : (l : Codeword) → l ≡ unpacked w → k ≡ element l.base i
     element_is l m = (leaves w z n j k f).is ∙ ap (λ (x : Codeword). element x.base z) (sym m) ∙ ap (element l.base) same
@@ -100,16 +101,17 @@ module _ (ws : List ℕ) (h : Holds ws) (t : Trace) (at w : ℕ) (e : Ok at ≡ 
         (subst (λ (l : Codeword). Links (shut at l k n us) (l.first + l.length - n) n vs) c_is L)) in
         row_deleted ws A h.sound h.shown t at d i n s b ty zs st (x.some, omega (arith, x.fits, k_is), omega (arith, x.not_all)) vs M
     deleted (d, Codes s b ps, st) =
-        let m = table_label d s b ps st in
-        let c_is : c ≡ labelling (s + 1) (length ps) b true 0 = read ∙ sym m.0 in
-        let k_is = element_is (labelling (s + 1) (length ps) b true 0) m.0 in
+        let is_label = table_label d s b ps st in
+        let c_is : c ≡ labelling (s + 1) (length ps) b true 0 = read ∙ sym is_label.0 in
+        let k_is = element_is (labelling (s + 1) (length ps) b true 0) is_label.0 in
         let x = leaves w z n j k f in
-        let N : length ps ≡ (unpacked w).length = ap (λ (l : Codeword). l.length) m.0 in
-        let levels : 3 - t.depth ≡ d = omega (arith, st.level, subscripts_count t) in
+        let N : length ps ≡ (unpacked w).length = ap (λ (l : Codeword). l.length) is_label.0 in
+        let below : levels ≡ d = omega (arith, left, st.level, subscripts_count t) in
         let C : Clears d ws (s + 1 + element b i) n us =
         subst (λ (q : ℕ). Clears d ws (s + 1 + q) n us) k_is
         (subst (λ (l : Codeword). Clears d ws (l.first + k) n us) c_is
-        (subst (λ (q : ℕ). Clears q ws (c.first + k) n us) levels (tables (ap (λ (l : Codeword). l.r) c_is)))) in
+        (subst (λ (q : ℕ). Clears d ws (c.first + k) q us) as_many
+        (subst (λ (q : ℕ). Clears q ws (c.first + k) m us) below (tables (ap (λ (l : Codeword). l.r) c_is))))) in
         let M : Links (shut at (labelling (s + 1) (length ps) b true 0) (element b i) n us) (s + 1 + length ps - n) n vs =
         subst (λ (q : ℕ). Links (shut at (labelling (s + 1) (length ps) b true 0) q n us) (s + 1 + length ps - n) n vs) k_is
         (subst (λ (l : Codeword). Links (shut at l k n us) (l.first + l.length - n) n vs) c_is L) in

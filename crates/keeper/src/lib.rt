@@ -2,6 +2,7 @@
 #![tactic(auto)]
 
 mod arrays_at;
+mod deletion_at;
 mod items;
 mod keeper;
 mod load;

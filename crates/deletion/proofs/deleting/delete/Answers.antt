@@ -1,4 +1,4 @@
-use Rattle.std.proofs.Common.{◌≡◌, ℕ, ◌+◌, ◌-◌, sym, ap, subst, arith, w32}
+use Rattle.std.proofs.Common.{ℕ, ◌+◌, ◌-◌, sym, ap, subst, arith, w32}
 use Rattle.std.proofs.lemmas.Bool.{both_ways}
 use Rattle.std.proofs.lemmas.Int.{to_z-of_z}
 use Rattle.booking.specs.Bookings.{Delete, on}
@@ -32,6 +32,7 @@ returns-clause-booked g c =
     let t = c.args.trace.now in
     let i = c.args.subscript in
     let l = c.unpack-label.result in
+    let from : ℕ = l.first + c.in_ok-element.element in
     λ h.
     delete_done ws h t c.in_ok-at.at c.word-code.result c.in_ok-at.ensures c.word-code.ensures i _ (to_z-of_z w32 i c.ranges.subscript)
     c.args.n (c.depth-depth.result + 1) (ap (λ (k : ℕ). k + 1) c.depth-depth.ensures) c.in_ok-element.element c.in_ok-element.ensures
@@ -40,13 +41,10 @@ returns-clause-booked g c =
       | then-label w ↦ absurd (both_ways l.r q w.if-label.true)
       | else-label w ↦ ap g.S.Store.words w.store-is
     ])
+    (4 - c.depth-depth.result - 1) (from + c.args.n - from) (omega (arith, c.depth-depth.ensures)) (omega arith)
     (λ q. elim c.if-label.branch [
-      | then-label w ↦
-          let levels : 4 - c.depth-depth.result - 1 ≡ 3 - t.depth = omega (arith, c.depth-depth.ensures) in
-          let from : l.first + c.in_ok-element.element + c.args.n - (l.first + c.in_ok-element.element) ≡ c.args.n = omega arith in
-          let start : ℕ = l.first + c.in_ok-element.element in
-          subst (λ us. Clears (3 - t.depth) ws start c.args.n us) (sym (ap g.S.Store.words w.store-is))
-          (rw (levels, from) at w.vacate_each.ensures.vacates)
+      | then-label w ↦ subst (λ us. Clears (4 - c.depth-depth.result - 1) ws from (from + c.args.n - from) us) (sym (ap g.S.Store.words w.store-is))
+          w.vacate_each.ensures.vacates
       | else-label w ↦ absurd (both_ways l.r w.if-label.false q)
     ])
     (subst (λ zs. Links zs (l.first + l.length - c.args.n) c.args.n (g.S.Store.words c.link_gap.new.store)) c.close_up.ensures.words c.link_gap.ensures.links)
