@@ -1,5 +1,5 @@
 -- A block that elements have left: those before stay, those behind went down, and its codeword says how many there are.
-use Rattle.std.proofs.Common.{◌≡◌, ℕ, suc, ◌+◌, ◌-◌, ◌<◌, ◌≤◌, ◌≢◌, List, [], ◌∷◌, ◌++◌, map, length, get_or, take, drop, set, sym, refl, ap, ◌∙◌, subst, inl, inr, arith, length-drop, length-set, length-take, get_or-set_other, get_or-set_same}
+use Rattle.std.proofs.Common.{◌≡◌, ℕ, suc, ◌+◌, ◌-◌, ◌<◌, ◌≤◌, ◌≢◌, List, [], ◌∷◌, ◌++◌, map, length, get_or, take, drop, set, sym, refl, ap, ◌∙◌, subst, inl, inr, append_assoc, arith, length-drop, length-set, length-take, get_or-set_other, get_or-set_same}
 use Rattle.std.proofs.lemmas.Bool.{cases_lt}
 use Rattle.ledger.specs.Lists.{delete_at}
 use Rattle.layout.specs.Arrangement.{Piece, concat}
@@ -33,9 +33,10 @@ module _ {X : Type 0} (f : ℕ → X → List Cell) where
   cells-++ a (x ∷ xs) zs =
       ap (λ (cs : List Cell). f a x ++ cs)
       (cells-++ (a + 1) xs zs ∙ ap (λ (k : ℕ). cells_along f (a + 1) xs ++ cells_along f k zs) (let e : a + 1 + length xs ≡ a + suc (length xs) = omega arith in e))
-      ∙ sym (Rattle.std.proofs.Common.append_assoc (f a x) (cells_along f (a + 1) xs) (cells_along f (a + suc (length xs)) zs))
+      ∙ sym (append_assoc (f a x) (cells_along f (a + 1) xs) (cells_along f (a + suc (length xs)) zs))
 
--- the block of the codeword at an address begins at s; n elements leave from element k on
+-- The block of the codeword at an address begins at s; n elements leave from element k on. No address is that of two words, and gs' are
+-- the gaps once the blocks below those that leave are linked.
 module _ {X : Type 0} (f : ℕ → X → List Cell) (h : X → List Piece) (one : (y a : ℕ) (x : X) → hits y (f a x) ≡ here y a + covered y (h x))
     (before after : List Cell) (at s k n : ℕ) (xs : List X) (gs gs' : List Piece) (inside : k + n ≤ length xs)
     (once : (z : ℕ) → here z 0 + covered z gs + hits z before + (here z at + (covers z (run s (length xs + 1)) + covered z (concat (map h xs)))) + hits z after ≤ 1)
