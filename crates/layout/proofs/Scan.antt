@@ -50,7 +50,7 @@ first_small a [] h e = omega arith
 first_small a (idle n ∷ ts) h e = omega (arith, e.0)
 first_small a (used n ∷ ts) h e = omega (arith, first_small (a + n) ts (omega arith) e.1)
 
-first_from : (a : ℕ) (ts : List Tile) → (first_of (idles a ts) ≡ 0) ⊎ (a ≤ first_of (idles a ts))
+pub first_from : (a : ℕ) (ts : List Tile) → (first_of (idles a ts) ≡ 0) ⊎ (a ≤ first_of (idles a ts))
 first_from a [] = inl refl
 first_from a (idle n ∷ ts) = inr (omega arith)
 first_from a (used n ∷ ts) = elim (first_from (a + n) ts) [ inl e ↦ inl e | inr h ↦ inr (omega arith) ]

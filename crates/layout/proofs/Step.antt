@@ -32,7 +32,7 @@ module _ (n from to : ℕ) (ws : List ℕ) (k : ℕ) where
   copied_in h l = cond-false _ _ _ (le-ltb k to h) ∙ cond-true _ _ _ (lt-ltb k (to + n) l)
 
 -- no element of a block is a back-reference, and none of a data block a label
-no_back : (q : Bool) (w : Says) (a : ℕ) → Sort q w → w ≡ back a → ⊥
+pub no_back : (q : Bool) (w : Says) (a : ℕ) → Sort q w → w ≡ back a → ⊥
 no_back q w a vacant e = let z : ◌≡◌ {A = ℕ} 0 1 = cc in omega arith
 no_back q w a (labels s n b r t) e = let z : ◌≡◌ {A = ℕ} 0 1 = cc in omega arith
 no_back q w a (plain v) e = let z : ◌≡◌ {A = ℕ} 0 1 = cc in omega arith

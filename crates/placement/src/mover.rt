@@ -41,7 +41,7 @@ pub fn renew<S: Store>(store: &mut S, codes: Range<u64>)
 }
 
 /// The codeword with another first address. It is made from the word and not from the fields, since bits without a name stay as they are.
-fn aimed(code: u64, first: u64) -> u64
+pub fn aimed(code: u64, first: u64) -> u64
     ensures { result ≡ aimed code first }
 {
     code - code % FIELD + first % FIELD

@@ -1,0 +1,34 @@
+ghost use Rattle.insertion.specs.Openings.{grown_words, longer};
+ghost use Rattle.codeword.specs.Codeword.{InWidth};
+ghost use Rattle.std.specs.Prelude.{◌≡◌, ◌<◌, ◌≤◌, length};
+
+use crate::lifting::move_up;
+use codeword::Codeword;
+use placement::renew;
+use store::{Store, clear, put, word};
+
+/// Brings `n` words of 0 in before an element of the block that a codeword labels, with room behind it. The word before the block says
+/// where the codeword stands.
+#[tactic(auto, using(crate::proofs::Lifts::length_lifted, placement::proofs::Moves::length_renewed, store::proofs::Zeroed::length_zeroed))]
+pub fn grow<S: Store>(store: &mut S, label: Codeword, element: u64, n: u64)
+    requires { InWidth label × (element ≤ label.length) × (n < 262144) }
+    ensures grows { InWidth (longer n label) → S.Store.words store.new ≡ grown_words label element n (S.Store.words store.old) }
+    ensures count { length (S.Store.words store.new) ≡ length (S.Store.words store.old) }
+    ensures rest { S.Store.rest store.new ≡ S.Store.rest store.old }
+{
+    let place = word(store, label.first.saturating_sub(1));
+    let from = label.first + element;
+    let end = label.first + label.length;
+    move_up(store, from..end, n);
+    clear(store, from, n);
+    let longer = Codeword {
+        length: label.length + n,
+        ..label
+    };
+    if let Some(code) = longer.pack() {
+        put(store, place, code);
+    }
+    if label.r {
+        renew(store, from + n..end + n);
+    }
+}
