@@ -1,3 +1,6 @@
 pub mod Lifts
 pub mod Renames
 pub mod Raised
+pub mod Inserted
+pub mod Renewed
+pub mod Grown

@@ -1,11 +1,22 @@
 ghost use Rattle.insertion.specs.Openings.{grown_words, longer};
-ghost use Rattle.codeword.specs.Codeword.{InWidth};
-ghost use Rattle.std.specs.Prelude.{◌≡◌, ◌<◌, ◌≤◌, length};
+ghost use Rattle.codeword.specs.Codeword.{InWidth, packed};
+ghost use Rattle.std.specs.Prelude.{◌≡◌, ◌<◌, ◌≤◌, length, slice_set};
 
 use crate::lifting::move_up;
 use codeword::Codeword;
 use placement::renew;
 use store::{Store, clear, put, word};
+
+/// Writes a label, if its fields fit a word.
+fn put_label<S: Store>(store: &mut S, at: u64, label: Codeword)
+    ensures words { InWidth label → S.Store.words store.new ≡ slice_set (S.Store.words store.old) at (packed label) }
+    ensures count { length (S.Store.words store.new) ≡ length (S.Store.words store.old) }
+    ensures rest { S.Store.rest store.new ≡ S.Store.rest store.old }
+{
+    if let Some(code) = label.pack() {
+        put(store, at, code);
+    }
+}
 
 /// Brings `n` words of 0 in before an element of the block that a codeword labels, with room behind it. The word before the block says
 /// where the codeword stands.
@@ -25,9 +36,7 @@ pub fn grow<S: Store>(store: &mut S, label: Codeword, element: u64, n: u64)
         length: label.length + n,
         ..label
     };
-    if let Some(code) = longer.pack() {
-        put(store, place, code);
-    }
+    put_label(store, place, longer);
     if label.r {
         renew(store, from + n..end + n);
     }

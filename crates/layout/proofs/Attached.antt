@@ -37,7 +37,7 @@ module _ (us : List ℕ) where
   zeros_shown a zero z = tt
   zeros_shown a (suc n) z = (first_zero a n z, zeros_shown (a + 1) n (later_zeros a n z))
 
-  nothing_shown : (d a : ℕ) → get_or us a 0 ≡ 0 → Each (Shown us) (cells d a (vacant d))
+  pub nothing_shown : (d a : ℕ) → get_or us a 0 ≡ 0 → Each (Shown us) (cells d a (vacant d))
   nothing_shown zero a z = (z, tt)
   nothing_shown (suc d) a z = (z, tt)
 

@@ -92,7 +92,7 @@ code (suc d) Vacant = 0
 code (suc d) (Data s b t vs) = word (label s (length vs) b false t)
 code (suc d) (Codes s b ps) = word (label s (length ps) b true 0)
 
-abbrev starts : ℕ → (d : ℕ) → Placed d → ℕ
+abbrev pub starts : ℕ → (d : ℕ) → Placed d → ℕ
 starts z zero p = 0
 starts z (suc d) Vacant = 0
 starts z (suc d) (Data s b t vs) = here z s
@@ -110,7 +110,7 @@ tops_hits z (suc d) a Vacant = refl
 tops_hits z (suc d) a (Data s b t vs) = omega arith
 tops_hits z (suc d) a (Codes s b ps) = omega arith
 
-cells_hits : (z d a : ℕ) (p : Placed d) → hits z (cells d a p) ≡ here z a + starts z d p + hits z (rest d p)
+pub cells_hits : (z d a : ℕ) (p : Placed d) → hits z (cells d a p) ≡ here z a + starts z d p + hits z (rest d p)
 cells_hits z d a p = ap (hits z) (cells_are d a p) ∙ hits-++ z (tops d a p) (rest d p) ∙ ap (λ (n : ℕ). n + hits z (rest d p)) (tops_hits z d a p)
 
 pub codeword_is : (ws : List ℕ) (d a : ℕ) (p : Placed d) → Shows d ws a p → get_or ws a 0 ≡ code d p

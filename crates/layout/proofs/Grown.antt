@@ -26,7 +26,7 @@ use Rattle.layout.proofs.Doors.{Legal}
 
 -- ── A block among the blocks ───────────────────────────────────────────
 
-abbrev In : Piece → List Piece → Type 0
+abbrev pub In : Piece → List Piece → Type 0
 In c [] = ⊥
 In c (p ∷ ps) = (p ≡ c) ⊎ In c ps
 
@@ -39,12 +39,12 @@ in_right : (c : Piece) (xs ys : List Piece) → In c ys → In c (xs ++ ys)
 in_right c [] ys m = m
 in_right c (x ∷ xs) ys m = inr (in_right c xs ys m)
 
-in_concat : {X : Type 0} (c : Piece) (f : X → List Piece) (v : X) (xs : List X) (i : ℕ) → i < length xs → In c (f (get_or xs i v)) → In c (concat (map f xs))
+pub in_concat : {X : Type 0} (c : Piece) (f : X → List Piece) (v : X) (xs : List X) (i : ℕ) → i < length xs → In c (f (get_or xs i v)) → In c (concat (map f xs))
 in_concat c f v [] i h m = absurd (omega arith)
 in_concat c f v (x ∷ xs) zero h m = in_left c (f x) (concat (map f xs)) m
 in_concat c f v (x ∷ xs) (suc i) h m = in_right c (f x) (concat (map f xs)) (in_concat c f v xs i (omega arith) m)
 
-at_in : (c : Piece) (d : ℕ) (is : List ℤ) (p : Placed d) → At (λ e q. In c (pieces (suc e) q)) d is p → In c (pieces d p)
+pub at_in : (c : Piece) (d : ℕ) (is : List ℤ) (p : Placed d) → At (λ e q. In c (pieces (suc e) q)) d is p → In c (pieces d p)
 at_in c zero is p a = absurd a
 at_in c (suc d) [] p a = a
 at_in c (suc d) (i ∷ is) Vacant a = absurd a
@@ -58,7 +58,7 @@ in_covers y c (p ∷ ps) (inl e) = omega (arith, ap (covers y) e)
 in_covers y c (p ∷ ps) (inr m) = omega (arith, in_covers y c ps m)
 
 -- a block lies before the end of c, or past it
-abbrev Beside : ℕ → ℕ → Piece → Type 0
+abbrev pub Beside : ℕ → ℕ → Piece → Type 0
 Beside s e p = (p.start ≤ s → p.start + p.size ≤ e) × (s < p.start → e ≤ p.start)
 
 apart_one : (s n : ℕ) (p : Piece) → 1 ≤ n → Some p → ((y : ℕ) → covers y (record { start = s; size = n }) + covers y p ≤ 1) → Beside s (s + n) p
@@ -84,7 +84,7 @@ module _ (s n : ℕ) (h : 1 ≤ n) where
   apart [] e o = tt
   apart (p ∷ ps) e o = (apart_one s n p h e.0 (λ y. omega (arith, o y)), apart ps e.1 (λ y. omega (arith, o y)))
 
-  beside : (ps : List Piece) → Each Some ps → ((y : ℕ) → covered y ps ≤ 1) → In (record { start = s; size = n }) ps → Each (Beside s (s + n)) ps
+  pub beside : (ps : List Piece) → Each Some ps → ((y : ℕ) → covered y ps ≤ 1) → In (record { start = s; size = n }) ps → Each (Beside s (s + n)) ps
   beside [] e o m = tt
   beside (p ∷ ps) e o (inl k) =
       let a : p.start ≡ s = ap (λ (q : Piece). q.start) k in
@@ -197,7 +197,7 @@ module _ (s e n : ℕ) (le : s < e) where
 -- ── The block grows ────────────────────────────────────────────────────
 
 module _ {X : Type 0} where
-  insert_length : (m n : ℕ) (x : X) (xs : List X) → length (insert_at m n x xs) ≡ length xs + n
+  pub insert_length : (m n : ℕ) (x : X) (xs : List X) → length (insert_at m n x xs) ≡ length xs + n
   insert_length m n x xs =
       omega (
         arith,
@@ -208,7 +208,7 @@ module _ {X : Type 0} where
         length-drop m xs,
       )
 
-  insert_covered : (y : ℕ) (f : X → List Piece) (m n : ℕ) (x : X) (xs : List X) → f x ≡ []
+  pub insert_covered : (y : ℕ) (f : X → List Piece) (m n : ℕ) (x : X) (xs : List X) → f x ≡ []
       → covered y (concat (map f (insert_at m n x xs))) ≡ covered y (concat (map f xs))
   insert_covered y f m n x xs e =
       omega (
@@ -220,7 +220,7 @@ module _ {X : Type 0} where
         ap (λ (zs : List X). covered y (concat (map f zs))) (take-append-drop m xs),
       )
 
-abbrev end_of : (d : ℕ) → Spot (Placed d) → ℕ
+abbrev pub end_of : (d : ℕ) → Spot (Placed d) → ℕ
 end_of d Vacant = 0
 end_of d (Data s b t ws) = s + 1 + length ws
 end_of d (Codes s b ps) = s + 1 + length ps
@@ -258,13 +258,13 @@ module _ (i : ℤ) (n : ℕ) where
 
   -- ── The whole insert ─────────────────────────────────────────────────
 
-  moved_legal : (to : ℕ → ℕ) (d : ℕ) (q : Spot (Placed d)) → Legal (Insert i n) d q → Legal (Insert i n) d (moved to (move to d) q)
+  pub moved_legal : (to : ℕ → ℕ) (d : ℕ) (q : Spot (Placed d)) → Legal (Insert i n) d q → Legal (Insert i n) d (moved to (move to d) q)
   moved_legal to d Vacant p = p
   moved_legal to d (Data s b t ws) p = tt
   moved_legal to d (Codes s b ps) p = tt
 
   -- a spot that begins at s and ends at e
-  abbrev SpansHere : ℕ → ℕ → (d : ℕ) → Spot (Placed d) → Type 0
+  abbrev pub SpansHere : ℕ → ℕ → (d : ℕ) → Spot (Placed d) → Type 0
   SpansHere s e d q = (Legal (Insert i n) d q × (start_of d q ≡ s)) × (end_of d q ≡ e)
 
   raised_end : (s e d : ℕ) (q : Spot (Placed d)) → SpansHere s e d q
@@ -273,7 +273,7 @@ module _ (i : ℤ) (n : ℕ) where
   raised_end s e d (Data x b t ws) p = (tt, omega (arith, up_no s n x (omega (arith, p.0.1)), p.1))
   raised_end s e d (Codes x b ps) p = (tt, omega (arith, up_no s n x (omega (arith, p.0.1)), p.1, length-map ps (move (up s n) d)))
 
-  its_piece : (s e d : ℕ) (q : Spot (Placed d)) → SpansHere s e d q → (s < e) × In (record { start = s; size = e - s }) (pieces (suc d) q)
+  pub its_piece : (s e d : ℕ) (q : Spot (Placed d)) → SpansHere s e d q → (s < e) × In (record { start = s; size = e - s }) (pieces (suc d) q)
   its_piece s e d Vacant p = absurd p.0.0
   its_piece s e d (Data x b t ws) p = (
     omega (arith, p.0.1, p.1),
@@ -287,7 +287,7 @@ module _ (i : ℤ) (n : ℕ) where
   )
 
   -- over one gap behind the blocks
-  inserted_sound : (t : Trace) (B : Arrangement) (T : ℕ) → Sound B → B.gaps ≡ a_gap (B.count - T) T → total B.gaps ≡ T → AtTrace (Legal (Insert i n)) t B → n ≤ T
+  pub inserted_sound : (t : Trace) (B : Arrangement) (T : ℕ) → Sound B → B.gaps ≡ a_gap (B.count - T) T → total B.gaps ≡ T → AtTrace (Legal (Insert i n)) t B → n ≤ T
       → Sound (at_trace (grown i n) t (raised (seen 0 start_of t B) n B))
   inserted_sound t B T o gaps sum a l =
       let s = seen 0 start_of t B in

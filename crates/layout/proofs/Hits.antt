@@ -17,7 +17,7 @@ hits y (c ∷ cs) = here y c.at + hits y cs
 pub here_yes : (y : ℕ) → here y y ≡ 1
 here_yes y = ap (λ (q : Bool). cond q 1 0) (is_true (eqb y y) (eqb_refl y))
 
-here_no : (y a : ℕ) → ¬ (a ≡ y) → here y a ≡ 0
+pub here_no : (y a : ℕ) → ¬ (a ≡ y) → here y a ≡ 0
 here_no y a h = ap (λ (q : Bool). cond q 1 0) (is_false (eqb a y) (not_T (eqb a y) (λ t. h (eqb→eq a y t))))
 
 -- a run is its first word and the rest
