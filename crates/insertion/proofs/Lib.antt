@@ -4,3 +4,5 @@ pub mod Raised
 pub mod Inserted
 pub mod Renewed
 pub mod Grown
+pub mod Opened
+pub mod Again

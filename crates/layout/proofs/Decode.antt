@@ -40,7 +40,7 @@ pub gaps_inside : (A : Arrangement) → Tiled A → Each (Inside A.count) A.gaps
 gaps_inside A t = all_inside A.count A.gaps t.sized (λ y. omega (arith, t.once y))
 
 module _ (count : ℕ) where
-  fits_each : {X : Type 0} (f : X → List Piece) (G F : X → Type 0) → ((x : X) → G x → Each (Inside count) (f x) → F x)
+  pub fits_each : {X : Type 0} (f : X → List Piece) (G F : X → Type 0) → ((x : X) → G x → Each (Inside count) (f x) → F x)
       → (xs : List X) → Each G xs → Each (Inside count) (concat (map f xs)) → Each F xs
   fits_each f G F h [] g i = tt
   fits_each f G F h (x ∷ xs) g i = (
@@ -48,7 +48,7 @@ module _ (count : ℕ) where
     fits_each f G F h xs g.1 (each_right (Inside count) (f x) (concat (map f xs)) i),
   )
 
-  fits_one : (d : ℕ) (p : Placed d) → Good d p → Each (Inside count) (pieces d p) → Fits count d p
+  pub fits_one : (d : ℕ) (p : Placed d) → Good d p → Each (Inside count) (pieces d p) → Fits count d p
   fits_one zero p g i = tt
   fits_one (suc d) Vacant g i = tt
   fits_one (suc d) (Data s b t ws) g i = (g.0, i.0.0, omega (arith, i.0.1), g.1, g.2)

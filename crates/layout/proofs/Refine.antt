@@ -276,7 +276,7 @@ module _ {X Y : Type 0} (f : X → Y) where
       (map-set f xs m (get_or xs n x) ∙ ap (λ (z : Y). set (map f xs) m z) (getD_under xs n x y e))
       ∙ ap (λ (z : Y). set (set (map f xs) m (get_or (map f xs) n y)) n z) (getD_under xs m x y e)
 
-moved_trees : (to : ℕ → ℕ) (ps : List (Placed 4)) → map (tree 4) (map (move to 4) ps) ≡ map (tree 4) ps
+pub moved_trees : (to : ℕ → ℕ) (ps : List (Placed 4)) → map (tree 4) (map (move to 4) ps) ≡ map (tree 4) ps
 moved_trees to ps = map-map (tree 4) (move to 4) ps ∙ map_cong _ _ (tree_move to 4) ps
 
 pub tidy_leaves_trees : (A : Arrangement) → trees (closed_up A) ≡ trees A
