@@ -6,3 +6,4 @@ pub mod Renewed
 pub mod Grown
 pub mod Opened
 pub mod Again
+pub mod Inserts

@@ -7,13 +7,14 @@ use Rattle.booking.specs.Traces.{subscripts}
 use Rattle.booking.specs.declared.refusal.Refusal.{Refusal}
 use Rattle.booking.specs.declared.refusal.Refusal.TheVariants.{BadLength, NoRoom, OutOfBounds, Unlabelled}
 use Rattle.booking.specs.declared.trace.Trace.{Trace}
-use Rattle.codeword.specs.Codeword.{unpacked}
+use Rattle.codeword.specs.Codeword.{InWidth, unpacked}
 use Rattle.codeword.specs.declared.Codeword.{Codeword}
 use Rattle.ledger.specs.Doors.{element, off}
 use Rattle.ledger.specs.Trees.{free}
 use Rattle.layout.specs.Arrangement.{Arrangement, Codes, Data, Placed, Spot, Vacant, tree, trees}
 use Rattle.layout.specs.Walks.{and_then, chosen, walked}
 use Rattle.layout.specs.Words.{labelling}
+use Rattle.layout.proofs.Gone.{chosen_lt}
 use Rattle.layout.proofs.Owed.{granted_now}
 use Rattle.layout.proofs.Place.{Reached, Stands, booked, door_open, door_shut, reply, shown_label, subscripts_count}
 use Rattle.ledger.proofs.Signs.{element_lt}
@@ -160,3 +161,35 @@ module _ (ws : List ℕ) (A : Arrangement) (t : Trace) (i : ℤ) (c : Codeword) 
 
   pub within : k ≤ o.size
   within = omega (arith, o.is, element_lt o.base i (o.size + 1) o.on)
+
+-- ── Over any words ─────────────────────────────────────────────────────
+
+-- the fields of a label that was read are small, and the element is one of its block or the one past its last
+abbrev pub Small : Codeword → ℕ → Type 0
+Small c k = InWidth c × (k ≤ c.length)
+
+not_ok : {X : Type 0} (r : Refusal) (x : X) → ◌≡◌ {A = Result X Refusal} (Ok x) (Err r) → ⊥
+not_ok r x e = let w : ◌≡◌ {A = ℕ} 0 1 = cc in omega arith
+
+small_in : (w : ℕ) (i : ℤ) (j : ℕ) (c : Codeword) (k : ℕ) → Ok (c, k) ≡ opening_in w i j → Small c k
+unfolding opening_in
+small_in w i j c k e = pick (eqb w 0) e
+  where
+    read : (x : Result ℕ Refusal) → x ≡ chosen (longer 1 (unpacked w)) i j → ◌≡◌ {A = Result (Codeword × ℕ) Refusal} (Ok (c, k)) (and_then x (λ m. Ok (unpacked w, m))) → Small c k
+    read (Err r) f g = absurd (not_ok r (c, k) g)
+    read (Ok m) f g =
+        let same : ◌≡◌ {A = Codeword × ℕ} (c, k) (unpacked w, m) = cc in
+        let lt = chosen_lt (longer 1 (unpacked w)) i j m f in
+        subst (λ (x : Codeword × ℕ). Small x.0 x.1) (sym same) ((omega arith, omega arith, omega arith), omega arith)
+
+    pick : (q : Bool) → ◌≡◌ {A = Result (Codeword × ℕ) Refusal} (Ok (c, k)) (cond q (Err (Unlabelled j)) (and_then (chosen (longer 1 (unpacked w)) i j) (λ m. Ok (unpacked w, m)))) → Small c k
+    pick true g = absurd (not_ok (Unlabelled j) (c, k) g)
+    pick false g = read (chosen (longer 1 (unpacked w)) i j) refl g
+
+pub opened_small : (ws : List ℕ) (t : Trace) (i : ℤ) (c : Codeword) (k : ℕ) → Ok (c, k) ≡ opened ws t i → Small c k
+unfolding opened
+opened_small ws t i c k e = pick (walked ws 1 t.name (subscripts t)) e
+  where
+    pick : (x : Result ℕ Refusal) → ◌≡◌ {A = Result (Codeword × ℕ) Refusal} (Ok (c, k)) (and_then x (λ a. opening_in (get_or ws a 0) i (t.depth + 1))) → Small c k
+    pick (Err r) g = absurd (not_ok r (c, k) g)
+    pick (Ok a) g = small_in (get_or ws a 0) i (t.depth + 1) c k g
