@@ -1,5 +1,5 @@
 -- Once the blocks above are raised, the trace leads to the same block, which stays where it begins.
-use Rattle.std.proofs.Common.{◌≡◌, ℕ, suc, ◌+◌, ◌-◌, ◌^◌, ◌<◌, ◌≤◌, Bool, true, false, cond, ltb, List, [], ◌∷◌, map, length, ℤ, Some, None, Option, Ok, Err, Result, sym, refl, ap, ◌∙◌, subst, inl, inr, arith}
+use Rattle.std.proofs.Common.{◌≡◌, ℕ, suc, ◌+◌, ◌-◌, ◌<◌, ◌≤◌, Bool, true, false, cond, ltb, List, [], length, ℤ, Some, None, Ok, Err, Result, sym, refl, ap, ◌∙◌, subst, inl, inr, arith}
 use lib.ListN.{length-map}
 use Rattle.std.proofs.lemmas.Bool.{cases_lt, cond-false, cond-true, le-ltb, lt-ltb}
 use Rattle.booking.specs.Bookings.{Answer, Deed, Extent, Insert, Span, Spans, granted, on, refused}
@@ -10,17 +10,17 @@ use Rattle.codeword.specs.declared.Codeword.{Codeword}
 use Rattle.ledger.specs.Doors.{element, off}
 use Rattle.ledger.specs.Ledger.{book}
 use Rattle.ledger.specs.Trees.{Trees}
-use Rattle.layout.specs.Arrangement.{Arrangement, Codes, Data, Piece, Placed, Spot, Vacant, blocks, pieces, trees}
+use Rattle.layout.specs.Arrangement.{Arrangement, Codes, Data, Piece, Placed, Spot, Vacant, blocks, pieces}
 use Rattle.layout.specs.Gaps.{a_gap}
 use Rattle.layout.specs.Holds.{Displays}
 use Rattle.layout.specs.Placement.{move, moved}
 use Rattle.layout.specs.Places.{seen}
 use Rattle.layout.specs.Rearranged.{raised, start_of}
-use Rattle.layout.specs.Sound.{Each, Good, Sound, covered, covers}
+use Rattle.layout.specs.Sound.{Each, Good, Sound, covered}
 use Rattle.layout.specs.Walks.{walked}
 use Rattle.layout.specs.Words.{first_of, labelling, total}
 use Rattle.layout.proofs.Bridge.{Fits}
-use Rattle.layout.proofs.Change.{At, AtTrace, at_imp, at_look, at_most_1, at_out, name_in, named}
+use Rattle.layout.proofs.Change.{AtTrace, at_imp, at_look, at_most_1, at_out, name_in, named}
 use Rattle.layout.proofs.Close.{all_move}
 use Rattle.layout.proofs.Cover.{above, among, below, each_both, each_last, each_start, lies}
 use Rattle.layout.proofs.Decode.{Inside, fits_each, fits_one, total_within}

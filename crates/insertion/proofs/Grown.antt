@@ -1,13 +1,13 @@
 -- A block grows in place: the words display the arrangement with the longer block.
-use Rattle.std.proofs.Common.{◌≡◌, ℕ, zero, suc, ◌+◌, ◌-◌, ◌^◌, ◌<◌, ◌≤◌, Bool, true, false, ◌≢◌, ◌⊎◌, List, [], ◌∷◌, ◌++◌, length, get_or, set, ℤ, sym, refl, ap, ◌∙◌, subst, inl, inr, arith}
-use Rattle.std.proofs.lemmas.Bool.{cases_eq, cases_lt, cond-false, cond-true}
+use Rattle.std.proofs.Common.{◌≡◌, ℕ, zero, suc, ◌+◌, ◌-◌, ◌^◌, ◌<◌, ◌≤◌, Bool, true, false, ◌≢◌, ◌⊎◌, List, ◌++◌, length, get_or, set, ℤ, sym, refl, ap, ◌∙◌, subst, inl, inr, arith}
+use Rattle.std.proofs.lemmas.Bool.{cases_eq, cases_lt}
 use Rattle.std.proofs.lemmas.List.{get_or-set_other, get_or-set_same, length-set}
 use Rattle.codeword.specs.Codeword.{packed}
 use Rattle.codeword.specs.declared.Codeword.{Codeword}
 use Rattle.ledger.specs.Lists.{insert_at}
 use Rattle.layout.specs.Arrangement.{Arrangement, Codes, Data, Placed, Vacant, vacant}
-use Rattle.layout.specs.Holds.{Along, Displays, Shows}
-use Rattle.layout.specs.Sound.{Each, Sound, covered, covers}
+use Rattle.layout.specs.Holds.{Displays, Shows}
+use Rattle.layout.specs.Sound.{Each, Sound, covers}
 use Rattle.layout.specs.Words.{Cell, cells, cells_along, datum_at, gap_cells, labelling}
 use Rattle.layout.proofs.Attached.{nothing_shown}
 use Rattle.layout.proofs.Bridge.{Fits}
@@ -23,7 +23,7 @@ use Rattle.layout.proofs.Rewritten.{each_kept, live_shown}
 use Rattle.placement.specs.Moves.{renewed}
 use Rattle.store.specs.Edits.{zeroed}
 use Rattle.store.proofs.Zeroed.{length_zeroed, zeroed_above, zeroed_at, zeroed_below}
-use Rattle.insertion.specs.Openings.{grown_words, longer, opened_up}
+use Rattle.insertion.specs.Openings.{longer, opened_up}
 use Rattle.insertion.specs.Raises.{lifted}
 use Rattle.insertion.proofs.Inserted.{come_after, come_before, come_in}
 use Rattle.insertion.proofs.Lifts.{length_lifted, lifted_high, lifted_in, lifted_low}

@@ -1,5 +1,5 @@
 -- The call that inserts: its doors, and the words that it leaves.
-use Rattle.std.proofs.Common.{◌≡◌, ℕ, suc, ◌+◌, ◌-◌, ◌^◌, ◌<◌, ◌≤◌, Bool, true, false, cond, leb, List, ◌++◌, length, get_or, ℤ, Ok, Err, Result, sym, refl, ap, ◌∙◌, subst, arith}
+use Rattle.std.proofs.Common.{◌≡◌, ℕ, suc, ◌+◌, ◌-◌, ◌^◌, ◌<◌, ◌≤◌, Bool, true, false, List, ◌++◌, length, get_or, ℤ, Ok, Err, Result, sym, refl, ap, ◌∙◌, subst, arith}
 use Rattle.std.proofs.lemmas.Bool.{cond-false, cond-true, le-leb, lt-leb}
 use Rattle.booking.specs.Bookings.{Done, Insert, Reply, granted, on, refused}
 use Rattle.booking.specs.Traces.{subscripts}
@@ -20,8 +20,8 @@ use Rattle.layout.specs.Held.{held_trees}
 use Rattle.layout.specs.Holds.{Displays, Holds}
 use Rattle.layout.specs.Keeping.{tidied}
 use Rattle.layout.specs.Placement.{closed_up}
-use Rattle.layout.specs.Places.{at_trace, seen}
-use Rattle.layout.specs.Rearranged.{grown, if_granted, raised, rearranged, start_of}
+use Rattle.layout.specs.Places.{at_trace}
+use Rattle.layout.specs.Rearranged.{grown, if_granted, raised, rearranged}
 use Rattle.layout.specs.Sound.{Each, Sound}
 use Rattle.layout.specs.Walks.{walked}
 use Rattle.layout.specs.Words.{Cell, cells, gap_cells, labelling, total, words_of}
@@ -34,7 +34,7 @@ use Rattle.layout.proofs.Hits.{hits, hits-++, hits_cells, hits_within}
 use Rattle.layout.proofs.Kept.{closed_up_sound}
 use Rattle.layout.proofs.Laws.{gaps_are_free, lawful, stored_sound, tidy_left}
 use Rattle.layout.proofs.Owed.{granted_owes, place_owes}
-use Rattle.layout.proofs.Place.{Reached, Stands, booked, came, fitting, reached, subscripts_count}
+use Rattle.layout.proofs.Place.{Stands, booked, came, fitting, reached, subscripts_count}
 use Rattle.layout.proofs.Refine.{tidy_leaves_trees}
 use Rattle.layout.proofs.Written.{words_shown}
 use Rattle.ledger.proofs.Signs.{element_lt}

@@ -1,17 +1,17 @@
 -- After the pass, the words go up: they display the blocks raised.
-use Rattle.std.proofs.Common.{◌≡◌, ℕ, zero, suc, ◌+◌, ◌-◌, ◌^◌, ◌<◌, ◌≤◌, cond, ltb, List, [], ◌∷◌, ◌++◌, map, length, get_or, sym, refl, ap, ◌∙◌, subst, inl, inr, arith}
+use Rattle.std.proofs.Common.{◌≡◌, ℕ, zero, suc, ◌+◌, ◌-◌, ◌^◌, ◌<◌, ◌≤◌, cond, ltb, List, [], ◌∷◌, map, length, get_or, sym, refl, ap, ◌∙◌, subst, inl, inr, arith}
 use Rattle.std.proofs.lemmas.Bool.{cases_lt, cond-false, cond-true, le-ltb, lt-ltb}
 use Rattle.layout.specs.Arrangement.{Arrangement, Codes, Data, Piece, Placed, Vacant, blocks, concat, pieces}
 use Rattle.layout.specs.Chains.{Chained, next_at}
 use Rattle.layout.specs.Gaps.{a_gap}
-use Rattle.layout.specs.Holds.{Along, Displays, Shows}
+use Rattle.layout.specs.Holds.{Displays, Shows}
 use Rattle.layout.specs.Placement.{move}
 use Rattle.layout.specs.Rearranged.{raised}
 use Rattle.layout.specs.Sound.{Each, Sound, covered, covers}
 use Rattle.layout.specs.Words.{Says, cells, cells_along, first_of, total, word}
 use Rattle.layout.proofs.Cells.{Rigid, Shown, along_move, carry, cells_move, cells→shows, from_cells, says_moved}
 use Rattle.layout.proofs.Chains.{first_at, gap_some}
-use Rattle.layout.proofs.Cover.{Lies, above, among, below, covers_yes, each_imp, each_left, each_right, lies}
+use Rattle.layout.proofs.Cover.{above, among, below, each_imp, each_left, each_right, lies}
 use Rattle.layout.proofs.Decode.{total_within}
 use Rattle.layout.proofs.Frame.{live}
 use Rattle.layout.proofs.Kept.{each_map, gap_covered}

@@ -1,5 +1,5 @@
 -- The pass over the blocks, in which each block and its codeword come to name the addresses where both will stand.
-use Rattle.std.proofs.Common.{◌≡◌, ℕ, ◌+◌, ◌-◌, ◌^◌, ◌<◌, ◌≤◌, cond, ltb, ◌≢◌, List, [], ◌∷◌, map, length, get_or, set, sym, refl, ap, ◌∙◌, subst, inl, inr, arith}
+use Rattle.std.proofs.Common.{◌≡◌, ℕ, ◌+◌, ◌-◌, ◌^◌, ◌<◌, ◌≤◌, cond, ltb, ◌≢◌, List, [], ◌∷◌, length, get_or, set, sym, refl, ap, ◌∙◌, subst, inl, inr, arith}
 use Rattle.std.proofs.lemmas.Bool.{cases_eq, cases_lt, cond-false, cond-true, le-ltb, lt-ltb}
 use Rattle.std.proofs.lemmas.List.{get_or-set_other, get_or-set_same, length-set}
 use Rattle.codeword.specs.Codeword.{unpacked}
@@ -8,7 +8,6 @@ use Rattle.layout.specs.Arrangement.{Arrangement}
 use Rattle.layout.specs.Holds.{Displays}
 use Rattle.layout.specs.Sound.{Each, Sound}
 use Rattle.layout.specs.Words.{Cell, Says, back, datum, first_of, label, labelling, none, word}
-use Rattle.ledger.specs.Trees.{sum}
 use Rattle.layout.proofs.Cells.{Shown, says_moved}
 use Rattle.layout.proofs.Cover.{each_perm}
 use Rattle.layout.proofs.Frame.{cell, live}

@@ -33,11 +33,7 @@ fn opening_of(code: u64, subscript: i32, step: u8) -> Result<(Codeword, u64), Re
 
 /// The same at the end of a trace.
 #[tactic(auto, unfolding(crate::specs::Openings::opened))]
-fn opening<S: Store>(
-    store: &S,
-    trace: &Trace,
-    subscript: i32,
-) -> Result<(Codeword, u64), Refusal>
+fn opening<S: Store>(store: &S, trace: &Trace, subscript: i32) -> Result<(Codeword, u64), Refusal>
     ensures { result ≡ opened (S.Store.words store.now) trace.now subscript }
 {
     let at = walk(store, trace)?;
@@ -46,12 +42,7 @@ fn opening<S: Store>(
 
 /// Brings `n` elements in before the one that a subscript selects, or after the last: zeros, or codewords that label nothing. All blocks
 /// are closed up first, which may move the codeword of the place, so the trace is walked again.
-pub fn insert<S: Store>(
-    store: &mut S,
-    trace: &Trace,
-    subscript: i32,
-    n: u64,
-) -> Result<(), Refusal>
+pub fn insert<S: Store>(store: &mut S, trace: &Trace, subscript: i32, n: u64) -> Result<(), Refusal>
     ensures booked { Books (S.Store.words store.old) (on trace.now (Insert subscript n)) (done_of result) (S.Store.words store.new) }
     ensures count { length (S.Store.words store.new) ≡ length (S.Store.words store.old) }
     ensures rest { S.Store.rest store.new ≡ S.Store.rest store.old }

@@ -3,6 +3,7 @@
 
 mod arrays_at;
 mod deletion_at;
+mod insert;
 mod items;
 mod keeper;
 mod load;

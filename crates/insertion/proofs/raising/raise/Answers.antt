@@ -1,4 +1,4 @@
-use Rattle.std.proofs.Common.{ℕ, ◌+◌, ◌<◌, refl, ap, ◌∙◌, arith, lit≤}
+use Rattle.std.proofs.Common.{◌+◌, ◌<◌, refl, ap, ◌∙◌, arith, lit≤}
 use Rattle.codeword.specs.declared.head.Head.{Head}
 use Rattle.layout.specs.Words.{first_of}
 use Rattle.layout.proofs.Chains.{first_at}

@@ -1,4 +1,4 @@
-use Rattle.std.proofs.Common.{◌≡◌, ℕ, ◌+◌, ◌-◌, ◌^◌, ◌≤◌, List, length}
+use Rattle.std.proofs.Common.{◌≡◌, ◌+◌, ◌-◌, ◌^◌, ◌≤◌, List, length}
 use Rattle.layout.specs.Arrangement.{Arrangement}
 use Rattle.layout.specs.Holds.{Displays}
 use Rattle.layout.specs.Sound.{Sound}
