@@ -8,4 +8,4 @@ mod selection;
 
 pub use exchanges::exchange;
 pub use labels::rebase;
-pub use rows::{read, read_row, write, write_row};
+pub use rows::{read, read_row, run, write, write_row};

@@ -42,7 +42,7 @@ pub fn write<S: Store, K: Kind>(
 
 /// Where a row of n data elements begins: n is not 0, and there are as many from the subscript on.
 #[tactic(auto, unfolding(crate::specs::Rows::run_found))]
-fn run<S: Store>(
+pub fn run<S: Store>(
     store: &S,
     trace: &Trace,
     number: u64,

@@ -2,14 +2,13 @@
 #![tactic(auto)]
 
 mod arrays_at;
-mod deletion_at;
-mod insert;
 mod items;
 mod keeper;
 mod load;
 mod make;
 mod plain;
 mod save;
+mod sizes;
 mod span;
 mod tidy;
 

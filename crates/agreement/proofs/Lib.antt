@@ -1,0 +1,5 @@
+mod Follows
+mod Keeps
+mod Settles
+mod Turns
+mod Handed

@@ -1,0 +1,5 @@
+pub mod Runs
+pub mod Playing
+pub mod Accounts
+pub mod Law
+pub mod Outcomes
