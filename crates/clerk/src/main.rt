@@ -1,6 +1,9 @@
 // The clerk of open items: a morning, a ragged table whose rows move, and a month that is carried over to another house.
 #![tactic(auto)]
 
+mod closing;
+mod items;
+mod month;
 mod ragged;
 mod rows;
 mod saved;
@@ -13,5 +16,6 @@ fn main(rt: HostRuntime) -> io::Result<()> {
     println!(rt; "")?;
     show(&rt, &begin(&rt)?)?;
     ragged::run(&rt)?;
-    saved::run(&rt)
+    saved::run(&rt)?;
+    month::run(&rt, rt.alloc())
 }

@@ -3,6 +3,7 @@
 
 mod answer;
 mod entry;
+mod texts;
 
 pub use answer::{Answer, Reply};
 pub use entry::{Booking, Deed, Entry};

@@ -2,11 +2,13 @@
 #![tactic(auto)]
 
 mod answers;
+mod lists;
 mod opening;
 mod places;
 mod saved;
 
 pub use answers::{answer, tell};
+pub use lists::tell_list;
 pub use opening::{COUNT, begin, open};
 pub use places::element_of;
 pub use saved::show;
