@@ -1,10 +1,10 @@
 ghost use Rattle.booking.specs.Bookings.{Insert, on};
-ghost use Rattle.codeword.specs.Codeword.{InWidth};
 ghost use Rattle.insertion.specs.Openings.{opened, opening_in};
 ghost use Rattle.layout.specs.Booked.{Books};
+ghost use Rattle.layout.specs.Holds.{Holds};
+ghost use Rattle.layout.specs.Keeping.{tidied};
 ghost use Rattle.layout.specs.Results.{done_of};
-ghost use Rattle.std.specs.Prelude.{◌≡◌, ◌≤◌, length};
-ghost use Rattle.std.specs.Result.{IsOkAnd};
+ghost use Rattle.std.specs.Prelude.{◌≡◌, length};
 
 use crate::growing::grow;
 use crate::raising::{Rise, raise};
@@ -31,7 +31,7 @@ fn opening_of(code: u64, subscript: i32, step: u8) -> Result<(Codeword, u64), Re
     Ok((label, element))
 }
 
-/// The same at the end of a trace.
+/// The same at the end of a trace, a pair as in the definition.
 #[tactic(auto, unfolding(crate::specs::Openings::opened))]
 fn opening<S: Store>(store: &S, trace: &Trace, subscript: i32) -> Result<(Codeword, u64), Refusal>
     ensures { result ≡ opened (S.Store.words store.now) trace.now subscript }
@@ -40,8 +40,23 @@ fn opening<S: Store>(store: &S, trace: &Trace, subscript: i32) -> Result<(Codewo
     opening_of(word(store, at), subscript, trace.depth() + 1)
 }
 
+/// The same once all blocks are closed up, which may move the codeword of the place.
+fn opening_closed_up<S: Store>(
+    store: &mut S,
+    trace: &Trace,
+    subscript: i32,
+) -> Result<(Codeword, u64), Refusal>
+    ensures words { Holds (S.Store.words store.old) → S.Store.words store.new ≡ tidied (S.Store.words store.old) }
+    ensures found { result ≡ opened (S.Store.words store.new) trace.now subscript }
+    ensures count { length (S.Store.words store.new) ≡ length (S.Store.words store.old) }
+    ensures rest { S.Store.rest store.new ≡ S.Store.rest store.old }
+{
+    tidy(store);
+    opening(store, trace, subscript)
+}
+
 /// Brings `n` elements in before the one that a subscript selects, or after the last: zeros, or codewords that label nothing. All blocks
-/// are closed up first, which may move the codeword of the place, so the trace is walked again.
+/// are closed up first, so the trace is walked again.
 pub fn insert<S: Store>(store: &mut S, trace: &Trace, subscript: i32, n: u64) -> Result<(), Refusal>
     ensures booked { Books (S.Store.words store.old) (on trace.now (Insert subscript n)) (done_of result) (S.Store.words store.new) }
     ensures count { length (S.Store.words store.new) ≡ length (S.Store.words store.old) }
@@ -54,8 +69,7 @@ pub fn insert<S: Store>(store: &mut S, trace: &Trace, subscript: i32, n: u64) ->
     if n > free_words(store) {
         return Err(Refusal::NoRoom);
     }
-    tidy(store);
-    let (label, element) = opening(store, trace, subscript)?;
+    let (label, element) = opening_closed_up(store, trace, subscript)?;
     let rise = Rise {
         point: label.first + label.length,
         by: n,

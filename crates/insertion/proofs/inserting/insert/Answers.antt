@@ -9,11 +9,11 @@ use Rattle.insertion.proofs.inserting.insert.Goals as goal
 
 pub overflow_add-rise : goal.overflow_add-rise
 overflow_add-rise g c =
-    let s = opened_small _ _ _ _ _ c.in_ok-label.ensures in omega (arith, s.0.0, s.0.1)
+    let s = opened_small _ _ _ _ _ c.in_ok-label.ensures.found in omega (arith, s.0.0, s.0.1)
 
 pub grow-requires : goal.grow-requires
 grow-requires g c =
-    let s = opened_small _ _ _ _ _ c.in_ok-label.ensures in
+    let s = opened_small _ _ _ _ _ c.in_ok-label.ensures.found in
     (s.0, s.1, omega (arith, c.if-n-free_words.false, c.free_words.ensures))
 
 pub returns-in_err-opening-clause-booked : goal.returns-in_err-opening-clause-booked
@@ -44,7 +44,7 @@ returns-in_err-label-clause-booked g c =
     let i = c.args.subscript in
     λ h.
     absurd (never_lost ws h c.args.trace.now i _ (to_z-of_z w32 i c.ranges.subscript) _ _ c.in_ok-opening.ensures c.args.n c.if-n-eq0.false
-    c.free_words.result c.free_words.ensures c.if-n-free_words.false _ (c.tidy.ensures.words h) _ c.in_err-label.ensures)
+    c.free_words.result c.free_words.ensures c.if-n-free_words.false _ (c.opening_closed_up.ensures.words h) _ c.in_err-label.ensures.found)
 
 pub returns-clause-booked : goal.returns-clause-booked
 returns-clause-booked g c =
@@ -52,5 +52,5 @@ returns-clause-booked g c =
     let i = c.args.subscript in
     λ h.
     insert_done ws h c.args.trace.now i _ (to_z-of_z w32 i c.ranges.subscript) _ _ c.in_ok-opening.ensures c.args.n c.if-n-eq0.false
-    c.free_words.result c.free_words.ensures c.if-n-free_words.false _ (c.tidy.ensures.words h) _ _ c.in_ok-label.ensures
+    c.free_words.result c.free_words.ensures c.if-n-free_words.false _ (c.opening_closed_up.ensures.words h) _ _ c.in_ok-label.ensures.found
     _ c.raise.ensures.raises _ c.grow.ensures.grows
