@@ -1,8 +1,8 @@
 -- Once the blocks above are raised, the trace leads to the same block, which stays where it begins.
-use Rattle.std.proofs.Common.{◌≡◌, ℕ, suc, ◌+◌, ◌-◌, ◌<◌, ◌≤◌, Bool, true, false, cond, ltb, List, [], length, ℤ, Some, None, Ok, Err, Result, sym, refl, ap, ◌∙◌, subst, inl, inr, arith}
+use Rattle.std.proofs.Common.{◌≡◌, ℕ, suc, ◌+◌, ◌-◌, ◌<◌, ◌≤◌, Bool, true, false, cond, ltb, List, [], length, ℤ, Some, Ok, Err, Result, sym, refl, ap, ◌∙◌, subst, inl, inr, arith}
 use lib.ListN.{length-map}
 use Rattle.std.proofs.lemmas.Bool.{cases_lt, cond-false, cond-true, le-ltb, lt-ltb}
-use Rattle.booking.specs.Bookings.{Answer, Deed, Extent, Insert, Span, Spans, granted, on, refused}
+use Rattle.booking.specs.Bookings.{Answer, Deed, Extent, Insert, Span, Spans, granted, on}
 use Rattle.booking.specs.Traces.{subscripts}
 use Rattle.booking.specs.declared.refusal.Refusal.{Refusal}
 use Rattle.booking.specs.declared.trace.Trace.{Trace}
@@ -24,6 +24,7 @@ use Rattle.layout.proofs.Change.{AtTrace, at_imp, at_look, at_most_1, at_out, na
 use Rattle.layout.proofs.Close.{all_move}
 use Rattle.layout.proofs.Cover.{above, among, below, each_both, each_last, each_start, lies}
 use Rattle.layout.proofs.Decode.{Inside, fits_each, fits_one, total_within}
+use Rattle.layout.proofs.Frees.{not_granted, not_none}
 use Rattle.layout.proofs.Grown.{In, at_in, beside, in_concat}
 use Rattle.layout.proofs.Kept.{each_map, gap_covered, move_good}
 use Rattle.layout.proofs.Order.{blocks_some}
@@ -71,12 +72,6 @@ shape_high count d _ _ _ _ _ _ (table s b ps) g = g.1
 
 same_extent : (x y : Extent) → granted (Spans (Some x)) ≡ granted (Spans (Some y)) → x ≡ y
 same_extent x y e = cc
-
-no_extent : (x : Extent) → granted (Spans None) ≡ granted (Spans (Some x)) → ⊥
-no_extent x e = let w : ◌≡◌ {A = ℕ} 0 1 = cc in omega arith
-
-not_granted : (r : Refusal) (a : Answer) → refused r ≡ granted a → ⊥
-not_granted r a e = let w : ◌≡◌ {A = ℕ} 0 1 = cc in omega arith
 
 -- ── Over one gap behind the blocks ─────────────────────────────────────
 
@@ -226,7 +221,7 @@ module _ (ws : List ℕ) (B : Arrangement) (o : Sound B) (one : B.gaps ≡ a_gap
 
       again : (a : Answer) (n' : ℕ) → booked B t (Insert i n') ≡ granted a → (x : Result ℕ Refusal) → Reached vs C t x → Open vs C t i c k
       again a n' g (Err r) h = absurd (not_granted r a (sym (h (Insert i n')) ∙ same_reply (Insert i n') ∙ g))
-      again a n' g (Ok at) (depth, Vacant, st) = absurd (no_extent _ (sym (st.asked Span ∙ granted_now _ _) ∙ span_again))
+      again a n' g (Ok at) (depth, Vacant, st) = absurd (not_none _ (sym span_again ∙ st.asked Span ∙ granted_now _ _))
       again a n' g (Ok at) (depth, Data x b ty us, st) = again_at at depth (Data x b ty us) st x (length us) b false ty (row x b ty us)
       again a n' g (Ok at) (depth, Codes x b ps, st) = again_at at depth (Codes x b ps) st x (length ps) b true 0 (table x b ps)
 

@@ -29,6 +29,7 @@ use Rattle.layout.proofs.Cells.{Shown}
 use Rattle.layout.proofs.Cover.{covers_yes}
 use Rattle.layout.proofs.Decode.{trees_told}
 use Rattle.layout.proofs.Frame.{live}
+use Rattle.layout.proofs.Frees.{not_granted}
 use Rattle.layout.proofs.Grown.{gap_total, insert_length}
 use Rattle.layout.proofs.Hits.{hits, hits-++, hits_cells, hits_within}
 use Rattle.layout.proofs.Kept.{closed_up_sound}
@@ -143,9 +144,6 @@ module _ (vs : List ℕ) (C : Arrangement) (shown : Displays vs C) (t : Trace) (
 
 -- ── The doors ──────────────────────────────────────────────────────────
 
-not_granted : (r : Refusal) → refused r ≡ granted Done → ⊥
-not_granted r e = let w : ◌≡◌ {A = ℕ} 0 1 = cc in omega arith
-
 module _ (ws : List ℕ) (h : Holds ws) (t : Trace) (i z : ℤ) (q : z ≡ i) where
   abbrev A : Arrangement
   A = h.arrangement
@@ -201,7 +199,7 @@ module _ (ws : List ℕ) (h : Holds ws) (t : Trace) (i z : ℤ) (q : z ≡ i) wh
         at_second = opened_so us B t i few_again (reached us B (fitting B sound) shown t (omega (arith, subscripts_count t, t.lawful.2))) z q
 
         pub never_lost : (r : Refusal) → Err r ≡ opened us t z → ⊥
-        never_lost r f = not_granted r (sym (at_second (Err r) f n) ∙ granted_again)
+        never_lost r f = not_granted r Done (sym (at_second (Err r) f n) ∙ granted_again)
 
         all_gaps : total B.gaps ≡ total A.gaps
         all_gaps = gap_total (A.count - total A.gaps) (total A.gaps)

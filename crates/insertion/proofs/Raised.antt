@@ -151,13 +151,13 @@ module _ (s e n : ℕ) (B : Arrangement) (o : Sound B) (one : B.gaps ≡ a_gap (
         }
 
 -- the pass ended, the words went up, and a gap was left behind them
-pub raises_so : (point n end x : ℕ) (ws us vs : List ℕ) → end ≡ next_at ws 0 → end ≤ x
+pub raises_so : (point n end x : ℕ) (ws us vs xs : List ℕ) → end ≡ next_at ws 0 → end ≤ x
     → ((B : Arrangement) → Sound B → Displays ws B → first_of B.gaps + n ≤ 2 ^ 18 → (rest : List Tile) × Pass B point n rest x us)
-    → vs ≡ gap_from (end + n) (lifted (end - point) point n us) → Raises point n ws vs
-raises_so point n end x ws us vs e over pass is s B o d one high less b some room =
+    → vs ≡ lifted (end - point) point n us → xs ≡ gap_from (end + n) vs → Raises point n ws xs
+raises_so point n end x ws us vs xs e over pass up is s B o d one high less b some room =
     let first : end ≡ first_of B.gaps = e ∙ first_at ws B.gaps (chained B o ws d) in
     let ends : first_of B.gaps ≡ B.count - total B.gaps = end_is s point n B o one less (omega arith) b some room in
     let P = pass B o d (omega (arith, total_within B o, o.most)) in
     let q : end ≡ B.count - total B.gaps = first ∙ ends in
-    subst (λ (xs : List ℕ). Displays xs (raised s n B)) (sym (is ∙ ap (λ (k : ℕ). gap_from (k + n) (lifted (k - point) point n us)) q))
+    subst (λ (zs : List ℕ). Displays zs (raised s n B)) (sym (is ∙ ap (gap_from (end + n)) up ∙ ap (λ (k : ℕ). gap_from (k + n) (lifted (k - point) point n us)) q))
     (raised_shown s point n B o one less (omega arith) b some room P.0 x us P.1 (omega arith))

@@ -10,15 +10,13 @@ use Rattle.layout.specs.Arrangement.{Codes, Data, Placed, Vacant}
 use Rattle.layout.specs.Words.{label, labelling, word}
 use Rattle.layout.proofs.Bridge.{Fits}
 use Rattle.layout.proofs.Exchanges.{code, starts}
-use Rattle.layout.proofs.Hits.{here, here_no, here_yes}
+use Rattle.layout.proofs.Hits.{here, here_no}
+use Rattle.layout.proofs.Written.{not_here}
 use Rattle.placement.specs.Moves.{renewed, renewed_at}
 use Rattle.placement.proofs.Moves.{length_renewed}
 
 pub is_here : (y s : ℕ) → 1 ≤ here y s → y ≡ s
 is_here y s h = elim (cases_eq y s) [ inl e ↦ e | inr ne ↦ absurd (omega (arith, here_no y s (λ e. ne (sym e)))) ]
-
-not_here : (y s : ℕ) → here y s ≡ 0 → y ≢ s
-not_here y s h e = omega (arith, h, subst (λ (k : ℕ). here y k ≡ 1) e (here_yes y))
 
 -- ── One codeword ───────────────────────────────────────────────────────
 

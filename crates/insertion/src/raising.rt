@@ -54,6 +54,7 @@ pub fn raise<S: Store>(store: &mut S, rise: Rise)
 {
     let end = Head::unpack(word(store, 0)).next;
     let mut at = FIRST;
+    // No range is plainer: each turn goes on by as many words as the block has, and changes the store.
     while at < end {
         at += rename(store, at, rise);
     }

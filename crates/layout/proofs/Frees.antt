@@ -20,10 +20,10 @@ use Rattle.layout.proofs.Owed.{granted_now, granted_owes, place_owes}
 use Rattle.layout.proofs.Relink.{chained}
 use Rattle.layout.proofs.Place.{Fitting, Reached, Stands, booked, came, reached, shown_label, subscripts_count}
 
-not_granted : (r : Refusal) (a : Answer) → refused r ≡ granted a → ⊥
+pub not_granted : (r : Refusal) (a : Answer) → refused r ≡ granted a → ⊥
 not_granted r a e = let w : ◌≡◌ {A = ℕ} 0 1 = cc in omega arith
 
-not_none : (x : Extent) → granted (Spans (Some x)) ≡ granted (Spans None) → ⊥
+pub not_none : (x : Extent) → granted (Spans (Some x)) ≡ granted (Spans None) → ⊥
 not_none x e = let w : ◌≡◌ {A = ℕ} 0 1 = cc in omega arith
 
 module _ (ws : List ℕ) (h : Holds ws) (t : Trace) (at : ℕ) (e : Ok at ≡ walked ws 1 t.name (subscripts t)) where

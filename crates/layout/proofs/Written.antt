@@ -9,7 +9,7 @@ use Rattle.layout.proofs.Cells.{Shown}
 use Rattle.layout.proofs.Frame.{displays}
 use Rattle.layout.proofs.Hits.{hits, here, here_yes, one_word_each, hits_within}
 
-not_here : (y a : ℕ) → here y a ≡ 0 → y ≡ a → ⊥
+pub not_here : (y a : ℕ) → here y a ≡ 0 → y ≡ a → ⊥
 not_here y a h e = omega (arith, h, subst (λ (k : ℕ). here y k ≡ 1) e (here_yes y))
 
 pub written_other : (cs : List Cell) (ws : List ℕ) (y : ℕ) → hits y cs ≡ 0 → get_or (written cs ws) y 0 ≡ get_or ws y 0

@@ -1,10 +1,9 @@
-use Rattle.std.proofs.Common.{◌+◌, ◌<◌, refl, ap, ◌∙◌, arith, lit≤}
+use Rattle.std.proofs.Common.{◌<◌, refl, ap, ◌∙◌, arith, lit≤}
 use Rattle.codeword.specs.declared.head.Head.{Head}
 use Rattle.layout.specs.Words.{first_of}
 use Rattle.layout.proofs.Chains.{first_at}
 use Rattle.layout.proofs.Relink.{chained}
 use Rattle.layout.proofs.Scan.{tiles}
-use Rattle.placement.specs.Gaps.{gap_from}
 use Rattle.insertion.proofs.Renames.{owner_small, pass_on, pass_start}
 use Rattle.insertion.proofs.Raised.{raises_so}
 use Rattle.insertion.proofs.raising.raise.Goals as goal
@@ -37,5 +36,5 @@ pub returns-clause-raises : goal.returns-clause-raises
 returns-clause-raises g c =
     let w = c.word.ensures in
     let e = ap (λ (h : Head). h.next) c.unpack-end.ensures in
-    raises_so c.args.rise.point c.args.rise.by _ _ _ _ _ (omega (arith, e, w)) c.loop-at-test.false c.loop-at.invariant.3
-    (c.leave_gap.ensures.words ∙ ap (gap_from (c.unpack-end.result.next + c.args.rise.by)) c.move_up.ensures.words)
+    raises_so c.args.rise.point c.args.rise.by _ _ _ _ _ _ (omega (arith, e, w)) c.loop-at-test.false c.loop-at.invariant.3
+    c.move_up.ensures.words c.leave_gap.ensures.words
