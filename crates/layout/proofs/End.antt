@@ -16,7 +16,7 @@ use Rattle.layout.proofs.Order.{Tile}
 use Rattle.layout.proofs.Scan.{Walk, reach, reached, same_names, tiles}
 use Rattle.layout.proofs.Step.{renamed}
 
-pub moved_names : (f : ℕ → ℕ) (w : Says) → renamed f f w ≡ says_moved f w
+moved_names : (f : ℕ → ℕ) (w : Says) → renamed f f w ≡ says_moved f w
 moved_names f (label s n b q t) = refl
 moved_names f none = refl
 moved_names f (back a) = refl

@@ -208,7 +208,7 @@ module _ {X : Type 0} where
         length-drop m xs,
       )
 
-  pub insert_covered : (y : ℕ) (f : X → List Piece) (m n : ℕ) (x : X) (xs : List X) → f x ≡ []
+  insert_covered : (y : ℕ) (f : X → List Piece) (m n : ℕ) (x : X) (xs : List X) → f x ≡ []
       → covered y (concat (map f (insert_at m n x xs))) ≡ covered y (concat (map f xs))
   insert_covered y f m n x xs e =
       omega (
@@ -220,7 +220,7 @@ module _ {X : Type 0} where
         ap (λ (zs : List X). covered y (concat (map f zs))) (take-append-drop m xs),
       )
 
-abbrev pub end_of : (d : ℕ) → Spot (Placed d) → ℕ
+abbrev end_of : (d : ℕ) → Spot (Placed d) → ℕ
 end_of d Vacant = 0
 end_of d (Data s b t ws) = s + 1 + length ws
 end_of d (Codes s b ps) = s + 1 + length ps
@@ -258,13 +258,13 @@ module _ (i : ℤ) (n : ℕ) where
 
   -- ── The whole insert ─────────────────────────────────────────────────
 
-  pub moved_legal : (to : ℕ → ℕ) (d : ℕ) (q : Spot (Placed d)) → Legal (Insert i n) d q → Legal (Insert i n) d (moved to (move to d) q)
+  moved_legal : (to : ℕ → ℕ) (d : ℕ) (q : Spot (Placed d)) → Legal (Insert i n) d q → Legal (Insert i n) d (moved to (move to d) q)
   moved_legal to d Vacant p = p
   moved_legal to d (Data s b t ws) p = tt
   moved_legal to d (Codes s b ps) p = tt
 
   -- a spot that begins at s and ends at e
-  abbrev pub SpansHere : ℕ → ℕ → (d : ℕ) → Spot (Placed d) → Type 0
+  abbrev SpansHere : ℕ → ℕ → (d : ℕ) → Spot (Placed d) → Type 0
   SpansHere s e d q = (Legal (Insert i n) d q × (start_of d q ≡ s)) × (end_of d q ≡ e)
 
   raised_end : (s e d : ℕ) (q : Spot (Placed d)) → SpansHere s e d q
@@ -273,7 +273,7 @@ module _ (i : ℤ) (n : ℕ) where
   raised_end s e d (Data x b t ws) p = (tt, omega (arith, up_no s n x (omega (arith, p.0.1)), p.1))
   raised_end s e d (Codes x b ps) p = (tt, omega (arith, up_no s n x (omega (arith, p.0.1)), p.1, length-map ps (move (up s n) d)))
 
-  pub its_piece : (s e d : ℕ) (q : Spot (Placed d)) → SpansHere s e d q → (s < e) × In (record { start = s; size = e - s }) (pieces (suc d) q)
+  its_piece : (s e d : ℕ) (q : Spot (Placed d)) → SpansHere s e d q → (s < e) × In (record { start = s; size = e - s }) (pieces (suc d) q)
   its_piece s e d Vacant p = absurd p.0.0
   its_piece s e d (Data x b t ws) p = (
     omega (arith, p.0.1, p.1),
@@ -287,7 +287,7 @@ module _ (i : ℤ) (n : ℕ) where
   )
 
   -- over one gap behind the blocks
-  pub inserted_sound : (t : Trace) (B : Arrangement) (T : ℕ) → Sound B → B.gaps ≡ a_gap (B.count - T) T → total B.gaps ≡ T → AtTrace (Legal (Insert i n)) t B → n ≤ T
+  inserted_sound : (t : Trace) (B : Arrangement) (T : ℕ) → Sound B → B.gaps ≡ a_gap (B.count - T) T → total B.gaps ≡ T → AtTrace (Legal (Insert i n)) t B → n ≤ T
       → Sound (at_trace (grown i n) t (raised (seen 0 start_of t B) n B))
   inserted_sound t B T o gaps sum a l =
       let s = seen 0 start_of t B in
