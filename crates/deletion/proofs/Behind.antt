@@ -86,7 +86,7 @@ module _ {X : Type 0} (f : ℕ → X → List Cell) (h : X → List Piece) (one 
       along_hits z f h (one z) (s + 1) front
       ∙ ap (λ (m : ℕ). covers z (run (s + 1) m) + below z front) (let e : length front ≡ k = omega (arith, length-take k xs) in e)
 
-  pub behind_long : length behind ≡ c
+  behind_long : length behind ≡ c
   behind_long = length-drop (k + n) xs
 
   behind_hits : (z b : ℕ) → hits z (cells_along f b behind) ≡ covers z (run b c) + below z behind
@@ -109,7 +109,7 @@ module _ {X : Type 0} (f : ℕ → X → List Cell) (h : X → List Piece) (one 
       | inr l ↦ absurd (omega (arith, e, here_yes z, ap (here z) (let q : z ≡ 0 = omega arith in q)))
     ]
 
-    -- what leaves lies elsewhere than what is behind it
+    -- those behind are shown as before once what leaves is in the gaps
     behind_there : Each (Shown us) (cells_along f (a + n) behind)
     behind_there =
         each_kept ws us (cells_along f (a + n) behind)
@@ -118,10 +118,11 @@ module _ {X : Type 0} (f : ℕ → X → List Cell) (h : X → List Piece) (one 
     elsewhere : (z : ℕ) → here z at ≡ 0 → get_or zs z 0 ≡ get_or vs z 0
     elsewhere z e = get_or-set_other vs at z (word new) 0 (λ q. omega (arith, here_yes at, subst (λ (m : ℕ). here m at ≡ 0) q e))
 
-    -- words of none of these
+    -- a word that is neither the codeword nor moved, nor in a block below those behind
     kept : (z : ℕ) → here z at ≡ 0 → covers z (run a (n + c)) ≡ 0 → below z behind ≡ 0 → get_or zs z 0 ≡ get_or us z 0
     kept z e p q = elsewhere z e ∙ stay behind_there z p q
 
+    -- nor freed
     still : (z : ℕ) → here z 0 ≡ 0 → covered z gs ≡ 0 → here z at ≡ 0 → covers z (run a n) ≡ 0 → covers z (run (a + n) c) ≡ 0 → below z leaving ≡ 0 → below z behind ≡ 0
         → get_or zs z 0 ≡ get_or ws z 0
     still z e g w p q l b = kept z w (omega (arith, run_both z)) b ∙ freed z (past_header z e) (omega arith)
@@ -169,7 +170,7 @@ module _ {X : Type 0} (f : ℕ → X → List Cell) (h : X → List Piece) (one 
           ),
         )
 
-    -- both, of words that are those
+    -- both, and the length, of words that are equal to these
     pub closed : (us' : List ℕ) → us' ≡ zs → Chained us' gs' × Each (Shown us') (before ++ (cell at new ∷ cell s (back at) ∷ cells_along f (s + 1) (delete_at k n xs) ++ after))
         × (length us' ≡ length ws)
     closed us' e =
