@@ -1,4 +1,4 @@
-// A second opinion on a list of bookings: sixty-four names that hold plain trees in memory, booked by the same rules as a keeper's.
+// Books the lines of a list over plain trees in memory, by the same rules as a keeper and with nothing of one.
 #![tactic(auto)]
 
 mod block;
