@@ -206,7 +206,7 @@ class Bookings:
         if not spot or room < 1:
             return None
         place, block = spot
-        n = room if self.random.random() < 0.05 else self.length(min(room, 6) if block.codes else room)
+        n = room if self.random.random() < 0.05 and room < 1000 else self.length(min(room, 6) if block.codes else room)
         at = self.random.randrange(len(block.items) + 1)
         block.items[at:at] = [None if block.codes else 0] * n
         return f"insert {trace(place)} {block.base + at} {n}"
