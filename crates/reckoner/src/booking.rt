@@ -19,20 +19,17 @@ pub struct Trace {
 }
 
 impl Trace {
-    /// The step of the walk at which the place itself is: one past the last subscript. No trace has another name than 1 to 64, or a
-    /// fourth subscript.
-    pub fn last_step(&self) -> Result<u8, Refusal>
-        ensures found { IsOk result ↔ ((1 ≤ self.now.name) × (self.now.name ≤ 64) × (vec_len self.now.subscripts ≤ 3)) }
-        ensures step { IfOk result (λ step. step ≡ vec_len self.now.subscripts + 1) }
+    /// No place has another name than 1 to 64, or a fourth subscript.
+    pub fn check(&self) -> Result<(), Refusal>
+        ensures { IsOk result ↔ ((1 ≤ self.now.name) × (self.now.name ≤ 64) × (vec_len self.now.subscripts ≤ 3)) }
     {
         if self.name == 0 || self.name > NAMES {
             return Err(Refusal::NoSuchName);
         }
-        let n = self.subscripts.len();
-        if n > SUBSCRIPTS {
+        if self.subscripts.len() > SUBSCRIPTS {
             return Err(Refusal::TooManySubscripts);
         }
-        Ok(n as u8 + 1)
+        Ok(())
     }
 }
 
@@ -74,7 +71,6 @@ pub enum Reply {
         codes: bool,
         kind: u8,
     },
-    Refused(Refusal),
 }
 
 /// The words for the two sorts of arrays.
@@ -101,7 +97,6 @@ impl fmt::Display for Reply {
                 codes,
                 kind,
             } => write!(f, "extent {base} {n} {} {kind}", sort(*codes)),
-            Reply::Refused(refusal) => write!(f, "{refusal}"),
         }
     }
 }

@@ -1,11 +1,12 @@
 // Sixty-four names, and the trees that they hold.
-ghost use Rattle.std.specs.Prelude.{◌≡◌, ◌+◌, ◌-◌, ◌≤◌, ◌↔◌, min, IfOk, IsOk, IsErr, IfErr};
+ghost use Rattle.std.specs.Prelude.{◌≡◌, ◌+◌, ◌-◌, ◌<◌, ◌≤◌, min, IfOk, OnOk};
+ghost use Rattle.reckoner.specs.Refusals.{OnRefused};
 ghost use Rattle.reckoner.specs.Trees.{weight_of_all};
 
 use crate::booking::{Booking, Failure, NAMES, Reply, Trace};
 use crate::refusal::Refusal;
 use crate::tree::Tree;
-use std::alloc::{AllocError, Global};
+use std::alloc::Global;
 
 /// The words that a store cannot give away: one for itself and one for each name.
 const KEPT: u64 = 1 + NAMES;
@@ -24,19 +25,20 @@ pub struct House {
 
 impl House {
     /// Every name holds nothing. Words past the most are not counted.
-    pub fn new(alloc: Global, count: u64) -> Result<Result<House, Refusal>, AllocError>
-        ensures found { IfOk result (λ made. IsOk made ↔ (67 ≤ count)) }
-        ensures count { IfOk result (λ made. IfOk made (λ house. house.count ≡ min count 262144)) }
+    pub fn new(alloc: Global, count: u64) -> Result<House, Failure>
+        ensures least { OnOk result (67 ≤ count) }
+        ensures count { IfOk result (λ house. house.count ≡ min count 262144) }
+        ensures refused { OnRefused result (count < 67) }
     {
         if count < LEAST {
-            return Ok(Err(Refusal::TooFewWords));
+            return Err(Refusal::TooFewWords.into());
         }
         let mut names = Vec::new(alloc);
         names.resize_with(NAMES as usize, || Tree::Nothing)?;
-        Ok(Ok(House {
+        Ok(House {
             count: count.min(MOST),
             names,
-        }))
+        })
     }
 
     /// How many words no tree takes up.
@@ -50,31 +52,20 @@ impl House {
         self.count.saturating_sub(taken)
     }
 
-    /// Books, or says why not.
+    /// Books at the place to which the trace leads. A refused booking changes nothing.
     pub fn book(
         &mut self,
         alloc: Global,
         trace: &Trace,
         booking: &Booking,
-    ) -> Result<Reply, AllocError> {
-        match self.try_book(alloc, trace, booking) {
-            Ok(reply) => Ok(reply),
-            Err(Failure::Refused(refusal)) => Ok(Reply::Refused(refusal)),
-            Err(Failure::NoMemory(error)) => Err(error),
-        }
-    }
-
-    // Books at the place to which the trace leads.
-    fn try_book(
-        &mut self,
-        alloc: Global,
-        trace: &Trace,
-        booking: &Booking,
-    ) -> Result<Reply, Failure> {
-        let step = trace.last_step()?;
+    ) -> Result<Reply, Failure>
+        ensures refused { OnRefused result (self.new ≡ self.old) }
+    {
+        trace.check()?;
         let free = self.free_words();
-        let root = self.names.get_mut(trace.name as usize - 1);
-        let place = root.ok_or(Refusal::NoSuchName)?.at(&trace.subscripts)?;
-        place.book(alloc, booking, free, step)
+        let Some(tree) = self.names.get_mut(trace.name as usize - 1) else {
+            return Err(Refusal::NoSuchName.into());
+        };
+        tree.book_below(alloc, &trace.subscripts, booking, free, 1)
     }
 }

@@ -8,6 +8,7 @@ mod line;
 mod refusal;
 mod tree;
 
+use booking::Failure;
 use house::House;
 use line::{Fault, Line};
 use std::alloc::Global;
@@ -33,12 +34,13 @@ fn main(rt: HostRuntime) -> io::Result<()> {
 // Makes a house of as many words as the first line counts.
 fn open<W: Write>(alloc: Global, out: &mut W, line: &str) -> io::Result<Option<House>> {
     match Line::read(alloc, line) {
-        Ok(Line::Count(count)) => match House::new(alloc, count)? {
+        Ok(Line::Count(count)) => match House::new(alloc, count) {
             Ok(house) => {
                 writeln!(out, "made")?;
                 return Ok(Some(house));
             }
-            Err(refusal) => writeln!(out, "{refusal}")?,
+            Err(Failure::Refused(refusal)) => writeln!(out, "{refusal}")?,
+            Err(Failure::NoMemory(error)) => return Err(error.into()),
         },
         Err(Fault::NoMemory(error)) => return Err(error.into()),
         _ => writeln!(out, "line 1: {}", Fault::NoCount)?,
@@ -56,10 +58,11 @@ fn answer<W: Write>(
 ) -> io::Result<()> {
     match Line::read(alloc, line) {
         Ok(Line::Tidy) => writeln!(out, "tidied"),
-        Ok(Line::Book(trace, booking)) => {
-            let reply = house.book(alloc, &trace, &booking)?;
-            writeln!(out, "{reply}")
-        }
+        Ok(Line::Book(trace, booking)) => match house.book(alloc, &trace, &booking) {
+            Ok(reply) => writeln!(out, "{reply}"),
+            Err(Failure::Refused(refusal)) => writeln!(out, "{refusal}"),
+            Err(Failure::NoMemory(error)) => Err(error.into()),
+        },
         Ok(Line::Count(_)) => writeln!(out, "line {number}: {}", Fault::SecondCount),
         Err(Fault::NoMemory(error)) => Err(error.into()),
         Err(fault) => writeln!(out, "line {number}: {fault}"),

@@ -1,5 +1,6 @@
 // Plain trees, and what is booked at one.
-ghost use Rattle.std.specs.Prelude.{◌+◌, ◌≤◌, IfOk, vec_len};
+ghost use Rattle.reckoner.specs.Refusals.{OnRefused};
+ghost use Rattle.std.specs.Prelude.{◌≡◌, ◌+◌, ◌<◌, ◌≤◌, IfOk, vec_len};
 
 use crate::block::{Block, check_row};
 use crate::booking::{Booking, Failure, Reply, Shape};
@@ -79,29 +80,33 @@ impl Tree {
         }
     }
 
-    /// The element of a table that a subscript selects.
-    fn element(&mut self, subscript: i32, step: u8) -> Result<&mut Tree, Refusal> {
+    /// Books at the place to which the subscripts lead from here. The step is the one that the first of them is.
+    #[cycle(book_below_book_in)]
+    pub fn book_below(
+        &mut self,
+        alloc: Global,
+        subscripts: &[i32],
+        booking: &Booking,
+        free: u64,
+        step: u8,
+    ) -> Result<Reply, Failure>
+        ensures refused { OnRefused result (self.new ≡ self.old) }
+    {
+        let Some((subscript, rest)) = subscripts.split_first() else {
+            return self.book(alloc, booking, free, step);
+        };
         match self {
-            Tree::Nothing => Err(Refusal::NothingThere(step)),
-            Tree::Row { .. } => Err(Refusal::OtherSort(step)),
+            Tree::Nothing => Err(Refusal::NothingThere(step).into()),
+            Tree::Row { .. } => Err(Refusal::OtherSort(step).into()),
             Tree::Table(trees) => {
-                let k = trees.select(subscript, step)?;
-                Ok(&mut trees.items[k])
+                let k = trees.select(*subscript, step)?;
+                book_in(&mut trees.items, k, alloc, rest, booking, free, step)
             }
         }
     }
 
-    /// The tree to which the subscripts lead.
-    pub fn at(&mut self, subscripts: &[i32]) -> Result<&mut Tree, Refusal> {
-        let mut tree = self;
-        for (subscript, step) in subscripts.iter().zip(1..) {
-            tree = tree.element(*subscript, step)?;
-        }
-        Ok(tree)
-    }
-
     /// Books at this place, which is at a step of the walk, in a store with so many free words.
-    pub fn book(
+    fn book(
         &mut self,
         alloc: Global,
         booking: &Booking,
@@ -297,4 +302,21 @@ fn find_row(
     }
     check_row(words.items.len() - k, n)?;
     Ok(k)
+}
+
+/// Books below one of several trees, at the place to which the subscripts lead from there.
+#[cycle(book_below_book_in)]
+fn book_in(
+    trees: &mut Vec<Tree>,
+    k: usize,
+    alloc: Global,
+    subscripts: &[i32],
+    booking: &Booking,
+    free: u64,
+    step: u8,
+) -> Result<Reply, Failure>
+    requires { k < vec_len trees.old }
+    ensures refused { OnRefused result (trees.new ≡ trees.old) }
+{
+    trees[k].book_below(alloc, subscripts, booking, free, step.saturating_add(1))
 }
