@@ -1,7 +1,7 @@
 -- What is handed on, one entry further.
-use Rattle.std.proofs.Common.{◌≡◌, ℕ, ◌+◌, ◌<◌, ◌≤◌, List, [], ◌∷◌, ◌++◌, map, length, true, false, get_or, drop, Ok, Err, Result, refl, ap, ◌∙◌, sym, subst, append_assoc, append-nil}
+use Rattle.std.proofs.Common.{◌≡◌, ℕ, ◌+◌, ◌<◌, List, [], ◌∷◌, ◌++◌, map, length, false, get_or, drop, Ok, Err, Result, refl, ap, ◌∙◌, sym, subst, append_assoc, append-nil}
 use Rattle.std.specs.Result.{is_err}
-use Rattle.std.proofs.lemmas.List.{drop_all, drop_more}
+use Rattle.std.proofs.lemmas.List.{drop_more}
 use Rattle.booking.specs.Bookings.{Booking}
 use Rattle.booking.specs.declared.refusal.Refusal.{Refusal}
 use Rattle.entries.specs.Readings.{booking_of, bookings, reply_of}
@@ -50,12 +50,6 @@ module _ (xs list : List Entry) (k : ℕ) (rs : List (Result Answer Refusal)) (a
         ap (λ q. bookings xs ++ granted_among (drop (k + 1) list) q) m ∙ ap (λ bs. bookings xs ++ bs) (none_granted (bookings (drop (k + 1) list)))
         ∙ subst (λ q. HandedOn xs (Book b ∷ drop (k + 1) list) q all) n here
 
-    -- it was refused
-    pub refused_passed : (r : Result Answer Refusal) → is_err r ≡ true → (qs : List (Result Answer Refusal)) → rs ≡ r ∷ qs
-        → HandedOn xs (drop (k + 1) list) qs all
-    refused_passed (Ok a) err qs n = absurd cc
-    refused_passed (Err x) err qs n = subst (λ q. HandedOn xs (Book b ∷ drop (k + 1) list) q all) n here
-
     -- it was granted; a tidy may stand behind it
     pub granted_on : (r : Result Answer Refusal) → is_err r ≡ false → (qs : List (Result Answer Refusal)) → rs ≡ r ∷ qs
         → (ys : List Entry) → bookings ys ≡ bookings (xs ++ e ∷ []) → HandedOn ys (drop (k + 1) list) qs all
@@ -67,8 +61,3 @@ module _ (xs list : List Entry) (k : ℕ) (rs : List (Result Answer Refusal)) (a
 
 pub tidied_behind : (xs : List Entry) → bookings (xs ++ Tidy ∷ []) ≡ bookings xs
 tidied_behind xs = bookings_on xs (Tidy ∷ []) ∙ append-nil (bookings xs)
-
-pub all_handed : (xs list : List Entry) (k : ℕ) (rs : List (Result Answer Refusal)) (all : List Booking) → HandedOn xs (drop k list) rs all → length list ≤ k
-    → bookings xs ≡ all
-all_handed xs list k rs all h l =
-    sym (append-nil (bookings xs)) ∙ subst (λ es. HandedOn xs es rs all) (drop_all k list l) h

@@ -101,31 +101,6 @@ module _ (d : ℕ) (ws : List ℕ) (at w : ℕ) (is : w ≡ get_or ws at 0) wher
       }
 
   module _ (c : Codeword) (read : c ≡ unpacked w) (some : w ≡ 0 → ⊥) where
-    pub released_row : c.r ≡ false → (us vs : List ℕ) → Links ws (c.first - 1) (c.length + 1) us → vs ≡ set us at 0 → Releases (suc d) ws at vs
-    released_row q us vs L e Vacant gs r = absurd (some (is ∙ r.shows))
-    released_row q us vs L e (Data s b t zs) gs r =
-        let m : labelling (s + 1) (length zs) b false t ≡ c = (of_row s b t zs gs r).0 ∙ sym read in
-        let own : Piece = run s (length zs + 1) in
-        row_gone us vs e s b t zs gs r
-        (L own gs (omega (arith, ap (λ (x : Codeword). x.first) m)) (omega (arith, ap (λ (x : Codeword). x.length) m)) r.chained
-        (own_loose own [] gs (length ws) r.apart (omega arith)))
-    released_row q us vs L e (Codes s b ps) gs r = absurd (both_ways c.r q (sym (ap (λ (x : Codeword). x.r) ((of_table s b ps gs r).0 ∙ sym read))))
-
-    pub released_table : c.r ≡ true → (us vs xs : List ℕ) → Clears d ws c.first c.length us → Links us (c.first - 1) (c.length + 1) vs → xs ≡ set vs at 0
-        → Releases (suc d) ws at xs
-    released_table q us vs xs C L e Vacant gs r = absurd (some (is ∙ r.shows))
-    released_table q us vs xs C L e (Data s b t zs) gs r = absurd (both_ways c.r (sym (ap (λ (x : Codeword). x.r) ((of_row s b t zs gs r).0 ∙ sym read))) q)
-    released_table q us vs xs C L e (Codes s b ps) gs r =
-        let m : labelling (s + 1) (length ps) b true 0 ≡ c = (of_table s b ps gs r).0 ∙ sym read in
-        let first : c.first ≡ s + 1 = sym (ap (λ (x : Codeword). x.first) m) in
-        let n : c.length ≡ length ps = sym (ap (λ (x : Codeword). x.length) m) in
-        let own : Piece = run s (length ps + 1) in
-        let rest = under d ps in
-        let R = (subst (λ (a : ℕ). Clears d ws a c.length us) first C ps gs (sym n) (elements d ws at s b ps gs r)).relinked in
-        table_gone us vs xs e s b ps gs r R
-        (L own (link_all rest gs) (omega (arith, first)) (omega (arith, n)) R.chained
-        (subst (Loose own (link_all rest gs)) (sym R.long) (own_loose own rest gs (length ws) r.apart (omega arith))))
-
     module _ (left last : ℕ) where
       -- more words than may be linked: no array that holds together
       pub released_short : left < c.length + 1 → (vs : List ℕ) (left' last' : ℕ) → ReleasesWithin (suc d) ws at left last vs left' last'

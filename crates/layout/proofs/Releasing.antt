@@ -5,7 +5,7 @@ use Rattle.layout.specs.Arrangement.{Piece, Placed, concat, pieces, vacant}
 use Rattle.layout.specs.Chains.{Chained, InChain, Relinked}
 use Rattle.layout.specs.Gaps.{link_all}
 use Rattle.layout.specs.Holds.{Along, Shows}
-use Rattle.layout.specs.Released.{Cleared, Clears, ClearsWithin, Released, Releases, ReleasesWithin, Rooted, Row, run, under}
+use Rattle.layout.specs.Released.{Cleared, ClearsWithin, Released, ReleasesWithin, Rooted, Row, run, under}
 use Rattle.layout.specs.Sound.{Good, covered, covers}
 use Rattle.layout.specs.Words.{cells, total}
 use Rattle.layout.proofs.Cells.{cells→shows, shows→cells}
@@ -205,14 +205,6 @@ row_part d ws a ps gs m n h r =
 
 -- ── As the loop goes ───────────────────────────────────────────────────
 
-pub clears_none : (d : ℕ) (ws : List ℕ) (a : ℕ) → Clears d ws a 0 ws
-clears_none d ws a [] gs n r = record { relinked = record { long = refl; chained = r.chained; kept = λ y lo h. refl }; emptied = λ j l. absurd (omega arith) }
-clears_none d ws a (p ∷ ps) gs n r = absurd (omega arith)
-
-pub clears_none_within : (d : ℕ) (ws : List ℕ) (a left last : ℕ) → ClearsWithin d ws a 0 left last ws left last
-clears_none_within d ws a left last [] gs n r k = (clears_none d ws a [] gs n r, record { used = omega arith; known = k.known })
-clears_none_within d ws a left last (p ∷ ps) gs n r k = absurd (omega arith)
-
 -- the front of a row
 row_front : (d : ℕ) (ws : List ℕ) (a k : ℕ) (ps : List (Placed d)) (gs : List Piece) → k ≤ length ps → Row d ws a ps gs → Row d ws a (take k ps) gs
 row_front d ws a k ps gs h r = subst (λ (y : ℕ). Row d ws y (take k ps) gs) (add-zero a) (row_part d ws a ps gs 0 k (omega arith) r)
@@ -233,14 +225,6 @@ passed_all d ws vs a n ps gs e P =
       relinked = subst (λ (zs : List Piece). Relinked ws vs (run a (length ps) ∷ zs ++ gs) (link_all zs gs)) (front_whole (pieces d) ps) Q.relinked;
       emptied = Q.emptied;
     }
-
-pub clears_more : (d : ℕ) (ws us vs : List ℕ) (a k : ℕ) → Clears d ws a k us → Releases d us (a + k) vs → Clears d ws a (k + 1) vs
-clears_more d ws us vs a k C R ps gs n r =
-    let long : length (take k ps) ≡ k = omega (arith, length-take k ps) in
-    let in_row : k < length ps = omega arith in
-    let P = passed_front d ws us a k ps gs long (C (take k ps) gs long (row_front d ws a k ps gs (omega arith) r)) in
-    let D = R (get_or ps k (vacant d)) (link_all (front (pieces d) k ps) gs) (pass_next d ws a ps gs r k in_row us P) in
-    passed_all d ws vs a (k + 1) ps gs n (pass_more d ws a ps gs r k in_row us P vs D)
 
 module _ (d : ℕ) (ws us vs : List ℕ) (a k left last left₁ last₁ left₂ last₂ : ℕ) where
   pub clears_more_within : ClearsWithin d ws a k left last us left₁ last₁ → ReleasesWithin d us (a + k) left₁ last₁ vs left₂ last₂

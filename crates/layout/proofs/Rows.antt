@@ -39,7 +39,7 @@ module _ (w kind : ℕ) (i : ℤ) (j : ℕ) where
     unfolding row_chosen
     row_table q = cond-false _ _ _ (ne_eqb w 0 some) ∙ cond-true _ _ _ (sym (ap (λ (z : Codeword). z.r) is) ∙ q)
 
-    pub row_row : c.r ≡ false
+    row_row : c.r ≡ false
         → row_chosen w kind i j ≡ and_then (chosen c i j) (λ k. cond (eqb c.kind kind) (Ok (c.first + k, c.length - k)) (Err WrongType))
     unfolding row_chosen
     row_row q =
