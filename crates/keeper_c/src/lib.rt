@@ -1,0 +1,9 @@
+// The keeper, offered to C: its calls over words and bytes that C lends.
+#![tactic(auto)]
+
+mod blocks;
+mod items;
+mod lent;
+mod reply;
+mod trace;
+mod word_calls;
