@@ -4,19 +4,22 @@ ghost use Rattle.store.specs.Answers.{get_answer, set_answer};
 use booking::Refusal;
 use store::{Lendable, Store};
 
-/// A list that C lends.
+/// A list that C lends. It is what a bank is, but a reference to it is a store too: a keeper is made over the reference, and whoever has the
+/// list still learns, after the call, what it then holds. Of a list that a keeper takes for its own nothing would be known any more.
 #[derive(Drop)]
 pub struct Lent<'a, E> {
     pub lent: &'a mut [E],
 }
 
 impl<'a, E: Lendable> Lent<'a, E> {
+    /// How many words are counted of it.
     fn how_many(&self) -> u64
         ensures { result ≡ length (E.Lendable.words self.now.lent.now) }
     {
         E::words_in(self.lent)
     }
 
+    /// The word at an address.
     fn read(&self, at: u64) -> Result<u64, Refusal>
         ensures { result ≡ get_answer (E.Lendable.words self.now.lent.now) at }
     {

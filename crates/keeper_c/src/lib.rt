@@ -2,6 +2,7 @@
 #![tactic(auto)]
 
 mod blocks;
+mod byte_calls;
 mod items;
 mod lent;
 mod reply;

@@ -1,0 +1,269 @@
+// The calls over bytes that C lends, eight to a word, highest byte first.
+ghost use Rattle.booking.specs.Bookings.{Delete, Exchange, Free, Insert, Read, Rebase, RowRead, RowWrite, Span, Take, Write};
+ghost use Rattle.codeword.specs.Codeword.{field};
+ghost use Rattle.keeper.specs.Saved.{save_reply, saved};
+ghost use Rattle.keeper_c.specs.Calls.{Calls};
+ghost use Rattle.keeper_c.specs.Told.{Shows, Takes, Tells, extent_in, number_of, word_in, words_in};
+ghost use Rattle.layout.specs.Held.{held_trees};
+ghost use Rattle.layout.specs.Holds.{Holds};
+ghost use Rattle.layout.specs.Keeping.{made, tidied};
+ghost use Rattle.layout.specs.Results.{done_of};
+ghost use Rattle.ledger.specs.Trees.{free};
+ghost use Rattle.std.specs.Prelude.{◌≡◌, ◌<◌, length, slice_index};
+ghost use Rattle.store.specs.Bytes.{byte_beyond, byte_words};
+
+use crate::lent::Lent;
+use crate::reply::{Extent, number};
+use crate::{blocks, items};
+use booking::Shape;
+use keeper::Keeper;
+
+/// Makes the keeper anew: every name labels nothing, and one gap takes up all the words behind the names.
+#[unsafe(no_mangle)]
+pub extern "C" fn keeper_bytes_make(bytes: &mut [u8]) -> u32
+    ensures number { result ≡ number_of (made (byte_words bytes.old)).0 }
+    ensures words { byte_words bytes.new ≡ (made (byte_words bytes.old)).1 }
+    ensures over { byte_beyond bytes.new ≡ byte_beyond bytes.old }
+{
+    let mut list = Lent { lent: bytes };
+    number(Keeper { store: &mut list }.make())
+}
+
+/// The total of inactive words, as the header has it.
+#[unsafe(no_mangle)]
+pub extern "C" fn keeper_bytes_total(bytes: &mut [u8]) -> u64
+    ensures header { result ≡ field 0 18 (slice_index (byte_words bytes.old) 0) }
+    ensures free { Holds (byte_words bytes.old) → result ≡ free (length (byte_words bytes.old)) (held_trees (byte_words bytes.old)) }
+    ensures same { bytes.new ≡ bytes.old }
+{
+    let mut list = Lent { lent: bytes };
+    Keeper { store: &mut list }.total()
+}
+
+/// Closes all blocks up, with one gap behind them. No tree changes.
+#[unsafe(no_mangle)]
+pub extern "C" fn keeper_bytes_tidy(bytes: &mut [u8])
+    ensures words { Holds (byte_words bytes.old) → byte_words bytes.new ≡ tidied (byte_words bytes.old) }
+    ensures count { length (byte_words bytes.new) ≡ length (byte_words bytes.old) }
+    ensures over { byte_beyond bytes.new ≡ byte_beyond bytes.old }
+{
+    let mut list = Lent { lent: bytes };
+    Keeper { store: &mut list }.tidy();
+}
+
+/// Copies all words of the store into a list of just that length.
+#[unsafe(no_mangle)]
+pub extern "C" fn keeper_bytes_save(bytes: &mut [u8], list: &mut [u64]) -> u32
+    ensures number { result ≡ number_of (done_of (save_reply (byte_words bytes.old) list.old)) }
+    ensures list { list.new ≡ saved (byte_words bytes.old) list.old }
+    ensures same { bytes.new ≡ bytes.old }
+{
+    let mut store = Lent { lent: bytes };
+    number(Keeper { store: &mut store }.save(list))
+}
+
+/// Takes a list, of just the store's length and holding together, as the store's words. Any other is refused, and the store stays as it was.
+#[unsafe(no_mangle)]
+pub extern "C" fn keeper_bytes_load(bytes: &mut [u8], list: &[u64]) -> u32
+    ensures takes { Takes (byte_words bytes.old) list.now result (byte_words bytes.new) }
+    ensures over { byte_beyond bytes.new ≡ byte_beyond bytes.old }
+{
+    let mut store = Lent { lent: bytes };
+    number(Keeper { store: &mut store }.load(list))
+}
+
+/// Takes an array at a place: zeros of a type, or codewords that label nothing. What stood there is freed first.
+#[unsafe(no_mangle)]
+pub extern "C" fn keeper_bytes_take(
+    bytes: &mut [u8],
+    name: u64,
+    subscripts: &[i32],
+    n: u64,
+    base: i64,
+    codes: bool,
+    kind: u64,
+    step: &mut u32,
+) -> u32
+    ensures calls { Calls (byte_words bytes.old) name subscripts.now (Take n base codes kind) (Tells result step.new (byte_words bytes.new)) }
+    ensures over { byte_beyond bytes.new ≡ byte_beyond bytes.old }
+{
+    let mut list = Lent { lent: bytes };
+    let shape = Shape {
+        base,
+        length: n,
+        codes,
+        kind,
+    };
+    blocks::take(&mut list, name, subscripts, shape, step)
+}
+
+/// Frees the array at a place.
+#[unsafe(no_mangle)]
+pub extern "C" fn keeper_bytes_free(
+    bytes: &mut [u8],
+    name: u64,
+    subscripts: &[i32],
+    step: &mut u32,
+) -> u32
+    ensures calls { Calls (byte_words bytes.old) name subscripts.now Free (Tells result step.new (byte_words bytes.new)) }
+    ensures over { byte_beyond bytes.new ≡ byte_beyond bytes.old }
+{
+    let mut list = Lent { lent: bytes };
+    blocks::free(&mut list, name, subscripts, step)
+}
+
+/// Brings n elements in before the one that the subscript selects, or after the last.
+#[unsafe(no_mangle)]
+pub extern "C" fn keeper_bytes_insert(
+    bytes: &mut [u8],
+    name: u64,
+    subscripts: &[i32],
+    subscript: i32,
+    n: u64,
+    step: &mut u32,
+) -> u32
+    ensures calls { Calls (byte_words bytes.old) name subscripts.now (Insert subscript n) (Tells result step.new (byte_words bytes.new)) }
+    ensures over { byte_beyond bytes.new ≡ byte_beyond bytes.old }
+{
+    let mut list = Lent { lent: bytes };
+    blocks::insert(&mut list, name, subscripts, subscript, n, step)
+}
+
+/// The n elements from the one that the subscript selects on leave the block, with the arrays below them.
+#[unsafe(no_mangle)]
+pub extern "C" fn keeper_bytes_delete(
+    bytes: &mut [u8],
+    name: u64,
+    subscripts: &[i32],
+    subscript: i32,
+    n: u64,
+    step: &mut u32,
+) -> u32
+    ensures calls { Calls (byte_words bytes.old) name subscripts.now (Delete subscript n) (Tells result step.new (byte_words bytes.new)) }
+    ensures over { byte_beyond bytes.new ≡ byte_beyond bytes.old }
+{
+    let mut list = Lent { lent: bytes };
+    blocks::delete(&mut list, name, subscripts, subscript, n, step)
+}
+
+/// Gives the block at a place another base.
+#[unsafe(no_mangle)]
+pub extern "C" fn keeper_bytes_rebase(
+    bytes: &mut [u8],
+    name: u64,
+    subscripts: &[i32],
+    base: i64,
+    step: &mut u32,
+) -> u32
+    ensures calls { Calls (byte_words bytes.old) name subscripts.now (Rebase base) (Tells result step.new (byte_words bytes.new)) }
+    ensures over { byte_beyond bytes.new ≡ byte_beyond bytes.old }
+{
+    let mut list = Lent { lent: bytes };
+    blocks::rebase(&mut list, name, subscripts, base, step)
+}
+
+/// Two elements of a block of codewords change places, with the arrays below them.
+#[unsafe(no_mangle)]
+pub extern "C" fn keeper_bytes_exchange(
+    bytes: &mut [u8],
+    name: u64,
+    subscripts: &[i32],
+    one: i32,
+    other: i32,
+    step: &mut u32,
+) -> u32
+    ensures calls { Calls (byte_words bytes.old) name subscripts.now (Exchange one other) (Tells result step.new (byte_words bytes.new)) }
+    ensures over { byte_beyond bytes.new ≡ byte_beyond bytes.old }
+{
+    let mut list = Lent { lent: bytes };
+    blocks::exchange(&mut list, name, subscripts, one, other, step)
+}
+
+/// What the block at a place is: all 0 where nothing is labelled. Refused, the extent stays as it was.
+#[unsafe(no_mangle)]
+pub extern "C" fn keeper_bytes_span(
+    bytes: &mut [u8],
+    name: u64,
+    subscripts: &[i32],
+    extent: &mut Extent,
+    step: &mut u32,
+) -> u32
+    ensures calls { Calls (byte_words bytes.old) name subscripts.now Span (Shows result step.new (extent_in extent.old) extent.new) }
+    ensures same { bytes.new ≡ bytes.old }
+{
+    let mut list = Lent { lent: bytes };
+    items::span(&mut list, name, subscripts, extent, step)
+}
+
+/// One data element of a block of the type. Refused, the word stays as it was.
+#[unsafe(no_mangle)]
+pub extern "C" fn keeper_bytes_read(
+    bytes: &mut [u8],
+    name: u64,
+    subscripts: &[i32],
+    kind: u64,
+    subscript: i32,
+    word: &mut u64,
+    step: &mut u32,
+) -> u32
+    ensures calls { Calls (byte_words bytes.old) name subscripts.now (Read kind subscript) (Shows result step.new (word_in word.old) word.new) }
+    ensures same { bytes.new ≡ bytes.old }
+{
+    let mut list = Lent { lent: bytes };
+    items::read(&mut list, name, subscripts, kind, subscript, word, step)
+}
+
+/// Replaces one data element of a block of the type.
+#[unsafe(no_mangle)]
+pub extern "C" fn keeper_bytes_write(
+    bytes: &mut [u8],
+    name: u64,
+    subscripts: &[i32],
+    kind: u64,
+    subscript: i32,
+    word: u64,
+    step: &mut u32,
+) -> u32
+    ensures calls { Calls (byte_words bytes.old) name subscripts.now (Write kind subscript word) (Tells result step.new (byte_words bytes.new)) }
+    ensures over { byte_beyond bytes.new ≡ byte_beyond bytes.old }
+{
+    let mut list = Lent { lent: bytes };
+    items::write(&mut list, name, subscripts, kind, subscript, word, step)
+}
+
+/// Copies as many data elements of a block of the type as the row has, from the subscript on, into the row. Refused, the row stays as it was.
+#[unsafe(no_mangle)]
+pub extern "C" fn keeper_bytes_read_row(
+    bytes: &mut [u8],
+    name: u64,
+    subscripts: &[i32],
+    kind: u64,
+    subscript: i32,
+    row: &mut [u64],
+    step: &mut u32,
+) -> u32
+    ensures calls { Calls (byte_words bytes.old) name subscripts.now (RowRead kind subscript (length row.old)) (Shows result step.new (words_in row.old) row.new) }
+    ensures refused { 0 < result → row.new ≡ row.old }
+    ensures same { bytes.new ≡ bytes.old }
+{
+    let mut list = Lent { lent: bytes };
+    items::read_row(&mut list, name, subscripts, kind, subscript, row, step)
+}
+
+/// Replaces as many data elements of a block of the type as the row has, from the subscript on.
+#[unsafe(no_mangle)]
+pub extern "C" fn keeper_bytes_write_row(
+    bytes: &mut [u8],
+    name: u64,
+    subscripts: &[i32],
+    kind: u64,
+    subscript: i32,
+    row: &[u64],
+    step: &mut u32,
+) -> u32
+    ensures calls { Calls (byte_words bytes.old) name subscripts.now (RowWrite kind subscript row.now) (Tells result step.new (byte_words bytes.new)) }
+    ensures over { byte_beyond bytes.new ≡ byte_beyond bytes.old }
+{
+    let mut list = Lent { lent: bytes };
+    items::write_row(&mut list, name, subscripts, kind, subscript, row, step)
+}
