@@ -1,5 +1,5 @@
 -- A trace that takes up a list of subscripts one by one.
-use Rattle.std.proofs.Common.{◌≡◌, ℕ, ◌+◌, ◌-◌, ◌<◌, ◌≤◌, min, List, [], ◌∷◌, ◌++◌, length, get_or, take, ℤ, pos, Err, Result, sym, ap, ◌∙◌, subst, inr, length-take, arith}
+use Rattle.std.proofs.Common.{◌≡◌, ℕ, ◌+◌, ◌<◌, ◌≤◌, List, [], ◌∷◌, ◌++◌, length, get_or, take, ℤ, pos, Err, Result, sym, ap, ◌∙◌, subst, inr, length-take, arith}
 use Rattle.booking.specs.Traces.{subscripts}
 use Rattle.booking.specs.declared.refusal.Refusal.{Refusal}
 use Rattle.booking.specs.declared.refusal.Refusal.TheVariants.{TooDeep}

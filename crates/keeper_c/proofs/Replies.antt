@@ -1,7 +1,7 @@
 -- What a call replied, as C is told it.
-use Rattle.std.proofs.Common.{◌≡◌, ℕ, ◌<◌, List, map, length, ℤ, Ok, Err, Result, sym, refl, ap, ◌∙◌, subst, inl, inr, arith}
+use Rattle.std.proofs.Common.{◌≡◌, ℕ, ◌<◌, List, ℤ, Ok, Err, Result, sym, refl, ap, ◌∙◌, subst, inl, inr, arith}
 use Rattle.std.proofs.lemmas.List.{map-id}
-use Rattle.booking.specs.Bookings.{Deed, Reply, RowRead, on, refused}
+use Rattle.booking.specs.Bookings.{Deed, Reply, on, refused}
 use Rattle.booking.specs.Traces.{subscripts}
 use Rattle.booking.specs.declared.refusal.Refusal.{Refusal}
 use Rattle.booking.specs.declared.trace.Trace.{Trace}

@@ -44,7 +44,6 @@ pub extern "C" fn keeper_bytes_total(bytes: &mut [u8]) -> u64
 #[unsafe(no_mangle)]
 pub extern "C" fn keeper_bytes_tidy(bytes: &mut [u8])
     ensures words { Holds (byte_words bytes.old) → byte_words bytes.new ≡ tidied (byte_words bytes.old) }
-    ensures count { length (byte_words bytes.new) ≡ length (byte_words bytes.old) }
     ensures over { byte_beyond bytes.new ≡ byte_beyond bytes.old }
 {
     let mut list = Lent { lent: bytes };

@@ -44,7 +44,6 @@ pub extern "C" fn keeper_total(words: &mut [u64]) -> u64
 #[unsafe(no_mangle)]
 pub extern "C" fn keeper_tidy(words: &mut [u64])
     ensures words { Holds (lent_words words.old) → lent_words words.new ≡ tidied (lent_words words.old) }
-    ensures count { length (lent_words words.new) ≡ length (lent_words words.old) }
     ensures over { beyond words.new ≡ beyond words.old }
 {
     let mut list = Lent { lent: words };

@@ -1,4 +1,4 @@
-use Rattle.std.proofs.Common.{rules, refl}
+use Rattle.std.proofs.Common.{refl}
 use Rattle.keeper_c.proofs.Replies.{shown}
 use Rattle.keeper_c.proofs.items.span.Goals as goal
 

@@ -1,5 +1,4 @@
-use Rattle.std.proofs.Common.{◌+◌, ◌≤◌, length, ap, ◌∙◌, arith, w32, SFits, rules}
-use Rattle.std.proofs.lemmas.Int.{to_z-of_z}
+use Rattle.std.proofs.Common.{◌∙◌, arith, rules}
 use Rattle.walk.proofs.Refusals.{refusal_kept}
 use Rattle.keeper_c.proofs.Fronts.{further, told_deep}
 use Rattle.keeper_c.proofs.trace.traced.Goals as goal

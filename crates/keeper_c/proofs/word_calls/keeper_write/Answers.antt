@@ -1,4 +1,4 @@
-use Rattle.std.proofs.Common.{rules, ℤ, ap, w32, w64}
+use Rattle.std.proofs.Common.{rules, ℤ, ap, w32}
 use Rattle.std.proofs.lemmas.Int.{to_z-of_z}
 use Rattle.booking.specs.Bookings.{Write}
 use Rattle.keeper_c.proofs.Replies.{alike}
