@@ -1,8 +1,7 @@
 -- What is handed on, one entry further.
-use Rattle.std.proofs.Common.{◌≡◌, ℕ, ◌+◌, ◌<◌, List, [], ◌∷◌, ◌++◌, map, length, false, get_or, drop, Ok, Err, Result, refl, ap, ◌∙◌, sym, subst, append_assoc, append-nil}
-use Rattle.std.specs.Result.{is_err}
-use Rattle.std.proofs.lemmas.List.{drop_more}
-use Rattle.booking.specs.Bookings.{Booking}
+use Rattle.std.proofs.Common.{◌≡◌, ℕ, ◌+◌, ◌<◌, ◌≤◌, Bool, true, false, cond, List, [], ◌∷◌, ◌++◌, map, length, get_or, drop, Ok, Err, Result, refl, ap, ◌∙◌, sym, subst, append-nil}
+use Rattle.std.proofs.lemmas.List.{drop_all, drop_more}
+use Rattle.agreement.specs.Handing.{handed_on, tidy_due}
 use Rattle.booking.specs.declared.refusal.Refusal.{Refusal}
 use Rattle.entries.specs.Readings.{booking_of, bookings, reply_of}
 use Rattle.entries.specs.declared.answer.Answer.{Answer}
@@ -11,53 +10,36 @@ use Rattle.entries.specs.declared.entry.Entry.{Entry}
 use Rattle.entries.specs.declared.entry.Entry.TheVariants.{Book, Tidy}
 use Rattle.ledger.specs.Runs.{granted_of}
 
--- the bookings granted among these entries, by these replies
-abbrev pub granted_among : List Entry → List (Result Answer Refusal) → List Booking
-granted_among es rs = granted_of (bookings es) (map reply_of rs)
+-- its bookings are those that were granted
+tidied : (q : Bool) (xs : List Entry) → bookings (cond q (Tidy ∷ []) [] ++ xs) ≡ bookings xs
+tidied true xs = refl
+tidied false xs = refl
+
+pub granted_handed : (every n : ℕ) (es : List Entry) (rs : List (Result Answer Refusal)) → bookings (handed_on every n es rs) ≡ granted_of (bookings es) (map reply_of rs)
+granted_handed every n [] rs = refl
+granted_handed every n (Tidy ∷ es) rs = granted_handed every n es rs
+granted_handed every n (Book b ∷ es) [] = refl
+granted_handed every n (Book b ∷ es) (Err r ∷ rs) = granted_handed every n es rs
+granted_handed every n (Book b ∷ es) (Ok a ∷ rs) =
+    ap (λ bs. booking_of b ∷ bs) (tidied (tidy_due every (n + 1)) (handed_on every (n + 1) es rs) ∙ granted_handed every (n + 1) es rs)
 
 -- these were handed on, and once the rest is, so are all of them
-abbrev pub HandedOn : List Entry → List Entry → List (Result Answer Refusal) → List Booking → Type 0
-HandedOn xs es rs all = bookings xs ++ granted_among es rs ≡ all
+abbrev pub HandedOn : (every n : ℕ) (xs es : List Entry) → List (Result Answer Refusal) → List Entry → Type 0
+HandedOn every n xs es rs all = xs ++ handed_on every n es rs ≡ all
 
-bookings_on : (xs ys : List Entry) → bookings (xs ++ ys) ≡ bookings xs ++ bookings ys
-bookings_on [] ys = refl
-bookings_on (Book b ∷ xs) ys = ap (λ bs. booking_of b ∷ bs) (bookings_on xs ys)
-bookings_on (Tidy ∷ xs) ys = bookings_on xs ys
+module _ (every n : ℕ) (xs list : List Entry) (k : ℕ) (rs : List (Result Answer Refusal)) (all : List Entry)
+    (h : HandedOn every n xs (drop k list) rs all) where
+  pub all_handed : length list ≤ k → xs ≡ all
+  all_handed l = sym (append-nil xs) ∙ subst (λ es. HandedOn every n xs es rs all) (drop_all k list l) h
 
-none_granted : (bs : List Booking) → granted_of bs [] ≡ []
-none_granted [] = refl
-none_granted (b ∷ bs) = refl
+  module _ (l : k < length list) (e : Entry) (at : e ≡ get_or list k e) where
+    front : HandedOn every n xs (e ∷ drop (k + 1) list) rs all
+    front = subst (λ es. HandedOn every n xs es rs all) (drop_more list k e l ∙ ap (λ x. x ∷ drop (k + 1) list) (sym at)) h
 
-module _ (xs list : List Entry) (k : ℕ) (rs : List (Result Answer Refusal)) (all : List Booking) (h : HandedOn xs (drop k list) rs all)
-    (l : k < length list) (e : Entry) (at : e ≡ get_or list k e) where
-  front : drop k list ≡ e ∷ drop (k + 1) list
-  front = drop_more list k e l ∙ ap (λ x. x ∷ drop (k + 1) list) (sym at)
+    module _ (b : entry.Booking) (is : e ≡ Book b) where
+      here : HandedOn every n xs (Book b ∷ drop (k + 1) list) rs all
+      here = subst (λ x. HandedOn every n xs (x ∷ drop (k + 1) list) rs all) is front
 
-  from : HandedOn xs (e ∷ drop (k + 1) list) rs all
-  from = subst (λ es. HandedOn xs es rs all) front h
-
-  -- a tidy is not handed on
-  pub tidy_passed : e ≡ Tidy → HandedOn xs (drop (k + 1) list) rs all
-  tidy_passed is = subst (λ x. HandedOn xs (x ∷ drop (k + 1) list) rs all) is from
-
-  module _ (b : entry.Booking) (is : e ≡ Book b) where
-    here : HandedOn xs (Book b ∷ drop (k + 1) list) rs all
-    here = subst (λ x. HandedOn xs (x ∷ drop (k + 1) list) rs all) is from
-
-    -- there is no reply
-    pub not_replied : rs ≡ [] → (qs : List (Result Answer Refusal)) → qs ≡ [] → HandedOn xs (drop (k + 1) list) qs all
-    not_replied n qs m =
-        ap (λ q. bookings xs ++ granted_among (drop (k + 1) list) q) m ∙ ap (λ bs. bookings xs ++ bs) (none_granted (bookings (drop (k + 1) list)))
-        ∙ subst (λ q. HandedOn xs (Book b ∷ drop (k + 1) list) q all) n here
-
-    -- it was granted; a tidy may stand behind it
-    pub granted_on : (r : Result Answer Refusal) → is_err r ≡ false → (qs : List (Result Answer Refusal)) → rs ≡ r ∷ qs
-        → (ys : List Entry) → bookings ys ≡ bookings (xs ++ e ∷ []) → HandedOn ys (drop (k + 1) list) qs all
-    granted_on (Err x) ok qs n ys same = absurd cc
-    granted_on (Ok a) ok qs n ys same =
-        ap (λ bs. bs ++ granted_among (drop (k + 1) list) qs) (same ∙ ap (λ x. bookings (xs ++ x ∷ [])) is ∙ bookings_on xs (Book b ∷ []))
-        ∙ append_assoc (bookings xs) (booking_of b ∷ []) (granted_among (drop (k + 1) list) qs)
-        ∙ subst (λ q. HandedOn xs (Book b ∷ drop (k + 1) list) q all) n here
-
-pub tidied_behind : (xs : List Entry) → bookings (xs ++ Tidy ∷ []) ≡ bookings xs
-tidied_behind xs = bookings_on xs (Tidy ∷ []) ∙ append-nil (bookings xs)
+      -- there are no more replies
+      pub none_left : rs ≡ [] → xs ≡ all
+      none_left q = sym (append-nil xs) ∙ subst (λ r. HandedOn every n xs (Book b ∷ drop (k + 1) list) r all) q here

@@ -3,3 +3,4 @@ pub mod Playing
 pub mod Accounts
 pub mod Law
 pub mod Outcomes
+pub mod Handing

@@ -1,9 +1,17 @@
+ghost use Rattle.agreement.specs.Handing.{handed_on, tidy_due};
 ghost use Rattle.entries.specs.Readings.{bookings, reply_of};
 ghost use Rattle.ledger.specs.Runs.{granted_of};
 ghost use Rattle.std.specs.Prelude.{◌≡◌, IfOk, map};
 
 use entries::{Entry, Reply};
 use std::alloc::{AllocError, Global};
+
+/// Whether a tidy stands behind so many bookings, where one stands behind every so many.
+fn is_tidy_due(every: usize, bookings: usize) -> bool
+    ensures { result ≡ tidy_due every bookings }
+{
+    bookings.checked_rem(every) == Some(0)
+}
 
 /// What is handed on of a list to which a keeper gave these replies: the bookings that it granted, in order, with a tidy behind each so many
 /// of them, and with none for 0.
@@ -13,7 +21,8 @@ pub fn hand_on<'a>(
     replies: &[Reply],
     tidy_every: usize,
 ) -> Result<Vec<Entry<'a>>, AllocError>
-    ensures { IfOk result (λ v. bookings v.items ≡ granted_of (bookings list.now) (map reply_of replies.now)) }
+    ensures list { IfOk result (λ v. v.items ≡ handed_on tidy_every 0 list.now replies.now) }
+    ensures bookings { IfOk result (λ v. bookings v.items ≡ granted_of (bookings list.now) (map reply_of replies.now)) }
 {
     let mut handed_on = Vec::new(alloc);
     let mut replies = replies.iter();
@@ -23,14 +32,14 @@ pub fn hand_on<'a>(
             continue;
         };
         let Some(reply) = replies.next() else {
-            continue;
+            break;
         };
         if reply.is_err() {
             continue;
         }
         handed_on.push(*entry)?;
         granted += 1;
-        if granted.checked_rem(tidy_every) == Some(0) {
+        if is_tidy_due(tidy_every, granted) {
             handed_on.push(Entry::Tidy)?;
         }
     }
