@@ -40,7 +40,10 @@ TABLE = [
     "insert {place} {below} 0", "delete {place} {lowest} 0", "exchange {place} {below} {past}", "exchange {place} {first} {past}",
     "exchange {place} {first} {lowest}",
 ]
-BELOW_TABLE = ["span {place}.{past}", "take {place}.{below} 0 40000 codes 9", "free {place}.{highest}", "read {place}.{past} 0 1"]
+BELOW_TABLE = [
+    "span {place}.{past}", "take {place}.{below} 0 40000 codes 9", "free {place}.{highest}", "read {place}.{past} 0 1",
+    "rebase {place}.{past} 40000",
+]
 BLOCK = [
     "take {place} 0 -32769 data 0", "take {place} 0 32768 codes 0", "take {place} 1 1 data 3", "take {place} 0 1 data {huge}",
     "take {place} 0 1 codes 1", "take {place} 1 1 codes {huge}", "take {place} 0 1 data 2", "take {place} 0 1 data 0",
