@@ -80,11 +80,7 @@ impl<'a> Line<'a> {
 }
 
 // What is to be done, in the fields behind the place.
-fn read_deed<'a>(
-    fields: &mut Fields<'_>,
-    verb: Verb,
-    words: &'a [u64],
-) -> Result<Deed<'a>, Fault> {
+fn read_deed<'a>(fields: &mut Fields<'_>, verb: Verb, words: &'a [u64]) -> Result<Deed<'a>, Fault> {
     match verb {
         Verb::Free => Ok(Deed::Free),
         Verb::Span => Ok(Deed::Span),

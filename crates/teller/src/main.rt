@@ -1,27 +1,25 @@
 // Books the lines of a list over a keeper, in a store that is joined from bytes and words.
 #![tactic(auto)]
 
-ghost use Rattle.layout.specs.Holds.{Holds};
-ghost use Rattle.std.specs.Prelude.{◌≡◌, ◌+◌, min, length};
+ghost use Rattle.std.specs.Prelude.{◌≡◌, ◌+◌, min};
 
 mod asked;
 mod booked;
 mod fault;
 mod fields;
+mod played;
 mod shown;
 mod told;
 mod written;
 
 use asked::Line;
-use booked::book;
 use fault::Fault;
 use keeper::Keeper;
+use played::play;
 use shown::show_names;
-use std::alloc::Global;
 use std::io::{self, BufRead, BufReader, BufWriter, Write};
-use store::{ByteBank, Joined, MOST, Store, WordBank};
-use told::{tell, tell_refusal};
-use written::written;
+use store::{ByteBank, Joined, MOST, WordBank};
+use told::tell_refusal;
 
 fn main(rt: HostRuntime) -> io::Result<()> {
     let alloc = rt.alloc();
@@ -49,9 +47,7 @@ fn main(rt: HostRuntime) -> io::Result<()> {
         return out.flush();
     }
     writeln!(out, "made")?;
-    for (number, line) in (2u64..).zip(lines) {
-        answer(alloc, &mut out, &mut keeper, number, &line?)?;
-    }
+    play(alloc, &mut out, &mut keeper, lines)?;
     show_names(alloc, &mut out, &keeper)?;
     out.flush()
 }
@@ -63,36 +59,4 @@ fn shares(count: u64) -> (usize, usize)
     let count = count.min(MOST) as usize;
     let in_bytes = count / 3;
     (in_bytes, count - in_bytes)
-}
-
-// Books one line, and says what came of it.
-#[tactic(auto, using(crate::proofs::Kept::tidied_kept))]
-fn answer<W: Write, S: Store>(
-    alloc: Global,
-    out: &mut W,
-    keeper: &mut Keeper<S>,
-    number: u64,
-    line: &str,
-) -> io::Result<()>
-    ensures holds { Holds (S.Store.words keeper.old.store) → Holds (S.Store.words keeper.new.store) }
-    ensures count { length (S.Store.words keeper.new.store) ≡ length (S.Store.words keeper.old.store) }
-    ensures rest { S.Store.rest keeper.new.store ≡ S.Store.rest keeper.old.store }
-{
-    let words = match written(alloc, line) {
-        Ok(words) => words,
-        Err(Fault::NoMemory(error)) => return Err(error.into()),
-        Err(fault) => return writeln!(out, "line {number}: {fault}"),
-    };
-    match Line::read(line, &words) {
-        Ok(Line::Count(_)) => writeln!(out, "line {number}: {}", Fault::CountedAgain),
-        Ok(Line::Tidy) => {
-            keeper.tidy();
-            writeln!(out, "tidied")
-        }
-        Ok(Line::Book(asked)) => {
-            let reply = book(alloc, keeper, &asked)?;
-            tell(out, &reply)
-        }
-        Err(fault) => writeln!(out, "line {number}: {fault}"),
-    }
 }

@@ -1,5 +1,5 @@
 -- Levels are counted down to none; a table's elements come before what stands below them.
-use Rattle.std.proofs.Common.{ℕ, ◌+◌, ◌*◌}
+use Rattle.std.proofs.Common.{◌+◌, ◌*◌}
 use Rattle.teller.proofs.shown.+show.Given as goal
 
 abbrev pub decreases-show_items : goal.decreases-show_items
