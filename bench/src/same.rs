@@ -68,27 +68,42 @@ fn play(keeper: &mut dyn Calls, name: u64, subscripts: &[i32], call: &Call) -> A
     answer
 }
 
-/// Bookings made by chance, for a store of so many words.
+/// Bookings made by chance, for a store of so many words. Most go to what is there.
 struct Bookings {
     seeded: Seeded,
     count: usize,
 }
 
 impl Bookings {
-    fn place(&mut self) -> (u64, Vec<i32>) {
+    fn place(&mut self, keeper: &mut Plain) -> (u64, Vec<i32>) {
         let name = match self.seeded.below(40) {
             0 => self.seeded.one_of(&[0, 65, u64::MAX]),
             1 => 64,
-            _ => 1 + self.seeded.below(5),
+            _ => 1 + self.seeded.below(4),
         };
-        let depth = self.seeded.one_of(&[0, 0, 0, 0, 0, 0, 0, 0, 1, 1, 1, 1, 1, 1, 1, 2, 2, 2, 3, 4]);
-        (name, (0..depth).map(|_| self.subscript()).collect())
+        let depth = self.seeded.one_of(&[0, 0, 0, 0, 1, 1, 1, 1, 2, 2, 2, 3, 3, 4]);
+        let mut subscripts = Vec::new();
+        for _ in 0..depth {
+            let mut block = None;
+            keeper.span(name, &subscripts, &mut block);
+            if !block.is_some_and(|block| block.codes) && self.seeded.below(8) > 0 {
+                break;
+            }
+            let subscript = self.subscript(keeper, name, &subscripts);
+            subscripts.push(subscript);
+        }
+        (name, subscripts)
     }
 
-    fn subscript(&mut self) -> i32 {
-        match self.seeded.below(30) {
-            0 => self.seeded.one_of(&[i32::MIN, i32::MAX, -32_768, 40_000]),
-            _ => self.seeded.below(6) as i32 - 1,
+    /// Mostly one of the block at a place, if there is one, or the one past its last.
+    fn subscript(&mut self, keeper: &mut Plain, name: u64, subscripts: &[i32]) -> i32 {
+        let mut block = None;
+        keeper.span(name, subscripts, &mut block);
+        match (self.seeded.below(40), block) {
+            (0, _) => self.seeded.one_of(&[i32::MIN, i32::MAX, -32_768, 40_000]),
+            (1 | 2, _) | (_, None) => self.seeded.below(6) as i32 - 1,
+            (3 | 4, Some(block)) => block.base as i32 + block.length as i32,
+            (_, Some(block)) => block.base as i32 + self.seeded.below(block.length) as i32,
         }
     }
 
@@ -130,30 +145,32 @@ impl Bookings {
         list
     }
 
-    fn call(&mut self, words: &[u64]) -> Call {
+    fn call(&mut self, keeper: &mut Plain, name: u64, subscripts: &[i32]) -> Call {
+        let length = keeper.words.len();
+        let at = self.subscript(keeper, name, subscripts);
         match self.seeded.below(60) {
             0 => Call::Total,
             1 => Call::Tidy,
-            2 => Call::Save(words.len() + self.seeded.one_of(&[0, 0, 0, 1])),
-            3..=5 => Call::Load(self.list(words)),
+            2 => Call::Save(length + self.seeded.one_of(&[0, 0, 0, 1])),
+            3..=5 => Call::Load(self.list(keeper.words)),
             6..=24 => Call::Take(self.shape()),
-            25..=26 => Call::Free,
-            27..=29 => Call::Read(self.kind(), self.subscript()),
-            30..=33 => Call::Write(self.kind(), self.subscript(), self.seeded.next()),
-            34..=36 => Call::ReadRow(self.kind(), self.subscript(), self.seeded.below(7) as usize),
-            37..=40 => {
+            25..=27 => Call::Free,
+            28 | 29 => Call::Read(self.kind(), at),
+            30..=33 => Call::Write(self.kind(), at, self.seeded.next()),
+            34 | 35 => Call::ReadRow(self.kind(), at, self.seeded.below(7) as usize),
+            36..=39 => {
                 let length = self.seeded.below(7);
                 let list = (0..length).map(|_| self.seeded.next()).collect();
-                Call::WriteRow(self.kind(), self.subscript(), list)
+                Call::WriteRow(self.kind(), at, list)
             }
-            41 | 42 => Call::Span,
-            43..=48 => Call::Insert(self.subscript(), self.length()),
-            49..=53 => Call::Delete(self.subscript(), self.length()),
+            40 => Call::Span,
+            41..=46 => Call::Insert(at, self.length()),
+            47..=53 => Call::Delete(at, self.length()),
             54 | 55 => {
                 let base = self.seeded.one_of(&[-1, 0, 1, 32_767, 32_768, -32_769, i64::MAX]);
                 Call::Rebase(base)
             }
-            _ => Call::Exchange(self.subscript(), self.subscript()),
+            _ => Call::Exchange(at, self.subscript(keeper, name, subscripts)),
         }
     }
 }
@@ -171,8 +188,9 @@ fn compared(seed: u64, count: usize, bookings: usize) -> Result<[u32; 13], Strin
     }
     let mut list = Bookings { seeded, count };
     for played in 0..bookings {
-        let (name, subscripts) = list.place();
-        let call = list.call(&ours);
+        let mut plain = Plain { words: &mut theirs };
+        let (name, subscripts) = list.place(&mut plain);
+        let call = list.call(&mut plain, name, &subscripts);
         let proved = play(&mut Keeper { words: &mut ours }, name, &subscripts, &call);
         let plain = play(&mut Plain { words: &mut theirs }, name, &subscripts, &call);
         let place = format!("booking {played} over {count} words, {call:?} at {name} {subscripts:?}");
