@@ -81,7 +81,10 @@ impl Bookings {
             1 => 64,
             _ => 1 + self.seeded.below(4),
         };
-        let depth = self.seeded.one_of(&[0, 0, 0, 0, 1, 1, 1, 1, 2, 2, 2, 3, 3, 4]);
+        let depth = self.seeded.one_of(&[0, 0, 0, 0, 1, 1, 1, 1, 2, 2, 2, 3, 3]);
+        if self.seeded.below(50) == 0 {
+            return (name, vec![0; 4]);
+        }
         let mut subscripts = Vec::new();
         for _ in 0..depth {
             let mut block = None;
