@@ -13,10 +13,38 @@ pub trait Calls {
     fn load(&mut self, list: &[u64]) -> Told;
     fn take(&mut self, name: u64, subscripts: &[i32], shape: Shape) -> Told;
     fn free(&mut self, name: u64, subscripts: &[i32]) -> Told;
-    fn read(&mut self, name: u64, subscripts: &[i32], kind: u64, subscript: i32, value: &mut u64) -> Told;
-    fn write(&mut self, name: u64, subscripts: &[i32], kind: u64, subscript: i32, value: u64) -> Told;
-    fn read_row(&mut self, name: u64, subscripts: &[i32], kind: u64, subscript: i32, list: &mut [u64]) -> Told;
-    fn write_row(&mut self, name: u64, subscripts: &[i32], kind: u64, subscript: i32, list: &[u64]) -> Told;
+    fn read(
+        &mut self,
+        name: u64,
+        subscripts: &[i32],
+        kind: u64,
+        subscript: i32,
+        value: &mut u64,
+    ) -> Told;
+    fn write(
+        &mut self,
+        name: u64,
+        subscripts: &[i32],
+        kind: u64,
+        subscript: i32,
+        value: u64,
+    ) -> Told;
+    fn read_row(
+        &mut self,
+        name: u64,
+        subscripts: &[i32],
+        kind: u64,
+        subscript: i32,
+        list: &mut [u64],
+    ) -> Told;
+    fn write_row(
+        &mut self,
+        name: u64,
+        subscripts: &[i32],
+        kind: u64,
+        subscript: i32,
+        list: &[u64],
+    ) -> Told;
     fn span(&mut self, name: u64, subscripts: &[i32], shape: &mut Option<Shape>) -> Told;
     fn insert(&mut self, name: u64, subscripts: &[i32], subscript: i32, n: u64) -> Told;
     fn delete(&mut self, name: u64, subscripts: &[i32], subscript: i32, n: u64) -> Told;
@@ -80,24 +108,62 @@ impl Calls for Plain<'_> {
     }
 
     #[inline(never)]
-    fn read(&mut self, name: u64, subscripts: &[i32], kind: u64, subscript: i32, value: &mut u64) -> Told {
-        let found = Trace::new(name, subscripts).and_then(|trace| self.keeper().read(&trace, kind, subscript));
+    fn read(
+        &mut self,
+        name: u64,
+        subscripts: &[i32],
+        kind: u64,
+        subscript: i32,
+        value: &mut u64,
+    ) -> Told {
+        let found = Trace::new(name, subscripts)
+            .and_then(|trace| self.keeper().read(&trace, kind, subscript));
         told(found.map(|word| *value = word))
     }
 
     #[inline(never)]
-    fn write(&mut self, name: u64, subscripts: &[i32], kind: u64, subscript: i32, value: u64) -> Told {
-        told(Trace::new(name, subscripts).and_then(|trace| self.keeper().write(&trace, kind, subscript, value)))
+    fn write(
+        &mut self,
+        name: u64,
+        subscripts: &[i32],
+        kind: u64,
+        subscript: i32,
+        value: u64,
+    ) -> Told {
+        told(
+            Trace::new(name, subscripts)
+                .and_then(|trace| self.keeper().write(&trace, kind, subscript, value)),
+        )
     }
 
     #[inline(never)]
-    fn read_row(&mut self, name: u64, subscripts: &[i32], kind: u64, subscript: i32, list: &mut [u64]) -> Told {
-        told(Trace::new(name, subscripts).and_then(|trace| self.keeper().read_row(&trace, kind, subscript, list)))
+    fn read_row(
+        &mut self,
+        name: u64,
+        subscripts: &[i32],
+        kind: u64,
+        subscript: i32,
+        list: &mut [u64],
+    ) -> Told {
+        told(
+            Trace::new(name, subscripts)
+                .and_then(|trace| self.keeper().read_row(&trace, kind, subscript, list)),
+        )
     }
 
     #[inline(never)]
-    fn write_row(&mut self, name: u64, subscripts: &[i32], kind: u64, subscript: i32, list: &[u64]) -> Told {
-        told(Trace::new(name, subscripts).and_then(|trace| self.keeper().write_row(&trace, kind, subscript, list)))
+    fn write_row(
+        &mut self,
+        name: u64,
+        subscripts: &[i32],
+        kind: u64,
+        subscript: i32,
+        list: &[u64],
+    ) -> Told {
+        told(
+            Trace::new(name, subscripts)
+                .and_then(|trace| self.keeper().write_row(&trace, kind, subscript, list)),
+        )
     }
 
     #[inline(never)]
@@ -108,12 +174,18 @@ impl Calls for Plain<'_> {
 
     #[inline(never)]
     fn insert(&mut self, name: u64, subscripts: &[i32], subscript: i32, n: u64) -> Told {
-        told(Trace::new(name, subscripts).and_then(|trace| self.keeper().insert(&trace, subscript, n)))
+        told(
+            Trace::new(name, subscripts)
+                .and_then(|trace| self.keeper().insert(&trace, subscript, n)),
+        )
     }
 
     #[inline(never)]
     fn delete(&mut self, name: u64, subscripts: &[i32], subscript: i32, n: u64) -> Told {
-        told(Trace::new(name, subscripts).and_then(|trace| self.keeper().delete(&trace, subscript, n)))
+        told(
+            Trace::new(name, subscripts)
+                .and_then(|trace| self.keeper().delete(&trace, subscript, n)),
+        )
     }
 
     #[inline(never)]
@@ -123,6 +195,9 @@ impl Calls for Plain<'_> {
 
     #[inline(never)]
     fn exchange(&mut self, name: u64, subscripts: &[i32], one: i32, other: i32) -> Told {
-        told(Trace::new(name, subscripts).and_then(|trace| self.keeper().exchange(&trace, one, other)))
+        told(
+            Trace::new(name, subscripts)
+                .and_then(|trace| self.keeper().exchange(&trace, one, other)),
+        )
     }
 }

@@ -50,7 +50,9 @@ fn growth(measured: &[Line]) {
     println!("\n| what | words | keeper | plain Rust | beside |");
     println!("|---|---:|---:|---:|---:|");
     for line in measured {
-        let smaller = measured.iter().find(|other| other.what == line.what && other.count * 16 == line.count);
+        let smaller = measured
+            .iter()
+            .find(|other| other.what == line.what && other.count * 16 == line.count);
         if let Some(smaller) = smaller {
             println!(
                 "| {} | {} to {} | {:.1} | {:.1} | {:.1} |",
@@ -74,9 +76,21 @@ fn main() -> ExitCode {
     if only.as_deref() == Some("same") {
         return ExitCode::SUCCESS;
     }
-    let mut measured: Vec<Line> = SIZES.into_iter().flat_map(|count| lines(count, only.as_deref())).collect();
-    let order: Vec<String> = measured.iter().rev().map(|line| line.what.clone()).collect();
-    measured.sort_by_key(|line| (std::cmp::Reverse(order.iter().position(|what| *what == line.what)), line.count));
+    let mut measured: Vec<Line> = SIZES
+        .into_iter()
+        .flat_map(|count| lines(count, only.as_deref()))
+        .collect();
+    let order: Vec<String> = measured
+        .iter()
+        .rev()
+        .map(|line| line.what.clone())
+        .collect();
+    measured.sort_by_key(|line| {
+        (
+            std::cmp::Reverse(order.iter().position(|what| *what == line.what)),
+            line.count,
+        )
+    });
     ratios(&measured);
     growth(&measured);
     ExitCode::SUCCESS

@@ -114,19 +114,37 @@ impl<'a> Keeper<'a> {
         Ok(self.words[at])
     }
 
-    pub fn write(&mut self, trace: &Trace, kind: u64, subscript: i32, word: u64) -> Result<(), Refusal> {
+    pub fn write(
+        &mut self,
+        trace: &Trace,
+        kind: u64,
+        subscript: i32,
+        word: u64,
+    ) -> Result<(), Refusal> {
         let (at, _) = self.row(trace, kind, subscript)?;
         self.words[at] = word;
         Ok(())
     }
 
-    pub fn read_row(&self, trace: &Trace, kind: u64, subscript: i32, list: &mut [u64]) -> Result<(), Refusal> {
+    pub fn read_row(
+        &self,
+        trace: &Trace,
+        kind: u64,
+        subscript: i32,
+        list: &mut [u64],
+    ) -> Result<(), Refusal> {
         let at = self.run(trace, kind, subscript, list.len())?;
         list.copy_from_slice(&self.words[at..at + list.len()]);
         Ok(())
     }
 
-    pub fn write_row(&mut self, trace: &Trace, kind: u64, subscript: i32, list: &[u64]) -> Result<(), Refusal> {
+    pub fn write_row(
+        &mut self,
+        trace: &Trace,
+        kind: u64,
+        subscript: i32,
+        list: &[u64],
+    ) -> Result<(), Refusal> {
         let at = self.run(trace, kind, subscript, list.len())?;
         self.words[at..at + list.len()].copy_from_slice(list);
         Ok(())
@@ -375,7 +393,10 @@ impl<'a> Keeper<'a> {
             before = head.next;
             head = self.head(before);
         }
-        let gap = Head { size, next: head.next };
+        let gap = Head {
+            size,
+            next: head.next,
+        };
         self.words[at] = gap.word();
         self.words[before] = Head { next: at, ..head }.word();
         self.words[0] += size as u64;
@@ -405,7 +426,11 @@ impl<'a> Keeper<'a> {
                 if need < gap.size {
                     next = at + need;
                     let size = gap.size - need;
-                    self.words[next] = Head { size, next: gap.next }.word();
+                    self.words[next] = Head {
+                        size,
+                        next: gap.next,
+                    }
+                    .word();
                 }
                 self.words[before] = Head { next, ..link }.word();
                 self.words[0] -= need as u64;
@@ -458,7 +483,13 @@ impl<'a> Keeper<'a> {
 
     /// Brings n zeros in at a point of the block that the codeword at `at` labels. All blocks are closed up, with one gap behind them.
     fn open(&mut self, at: usize, point: usize, n: usize) {
-        let lift = |address: usize| if address < point { address } else { address + n };
+        let lift = |address: usize| {
+            if address < point {
+                address
+            } else {
+                address + n
+            }
+        };
         let end = self.head(0).next;
         self.words[at] += (n as u64) << 18;
         self.words.copy_within(point..end, point + n);
@@ -485,7 +516,9 @@ pub fn holds_together(words: &[u64]) -> bool {
         words,
         marks: [0; MOST / 64],
     };
-    judge.tiled() && (1..=NAMES).all(|at| judge.array(at, LEVELS)) && judge.marks.iter().all(|bits| *bits == 0)
+    judge.tiled()
+        && (1..=NAMES).all(|at| judge.array(at, LEVELS))
+        && judge.marks.iter().all(|bits| *bits == 0)
 }
 
 /// A list that is judged, with a mark for each address where a block begins.
@@ -533,7 +566,10 @@ impl Judge<'_> {
         let Some(label) = Label::of(word) else {
             return true;
         };
-        let lawful = word == label.word() && label.length >= 1 && label.kind <= 2 && !(label.codes && label.kind != 0);
+        let lawful = word == label.word()
+            && label.length >= 1
+            && label.kind <= 2
+            && !(label.codes && label.kind != 0);
         let end = label.first + label.length;
         if levels == 0 || !lawful || label.first <= FIRST || end > self.words.len() {
             return false;

@@ -84,7 +84,10 @@ pub fn swaps(seed: u64, rows: usize, n: usize) -> Swaps {
     let mut seeded = Seeded(seed);
     let mut pairs = Vec::new();
     while pairs.len() < n {
-        let (one, other) = (seeded.below(rows as u64) as usize, seeded.below(rows as u64) as usize);
+        let (one, other) = (
+            seeded.below(rows as u64) as usize,
+            seeded.below(rows as u64) as usize,
+        );
         if one != other {
             pairs.push((one, other));
         }

@@ -125,13 +125,24 @@ impl Bookings {
 
     fn shape(&mut self) -> Shape {
         let codes = self.seeded.below(2) == 0;
-        let kind = if codes && self.seeded.below(20) > 0 { 0 } else { self.kind() };
+        let kind = if codes && self.seeded.below(20) > 0 {
+            0
+        } else {
+            self.kind()
+        };
         let base = match self.seeded.below(30) {
-            0 => self.seeded.one_of(&[32_767, -32_768, 32_768, -32_769, i64::MIN]),
+            0 => self
+                .seeded
+                .one_of(&[32_767, -32_768, 32_768, -32_769, i64::MIN]),
             _ => self.seeded.below(3) as i64 - 1,
         };
         let length = self.length();
-        Shape { length, base, codes, kind }
+        Shape {
+            length,
+            base,
+            codes,
+            kind,
+        }
     }
 
     /// A saved list, as it stands or with a word changed; or one of another length.
@@ -170,7 +181,9 @@ impl Bookings {
             41..=46 => Call::Insert(at, self.length()),
             47..=53 => Call::Delete(at, self.length()),
             54 | 55 => {
-                let base = self.seeded.one_of(&[-1, 0, 1, 32_767, 32_768, -32_769, i64::MAX]);
+                let base = self
+                    .seeded
+                    .one_of(&[-1, 0, 1, 32_767, 32_768, -32_769, i64::MAX]);
                 Call::Rebase(base)
             }
             _ => Call::Exchange(at, self.subscript(keeper, name, subscripts)),
@@ -185,7 +198,10 @@ fn compared(seed: u64, count: usize, bookings: usize) -> Result<[u32; 13], Strin
     let mut ours: Vec<u64> = (0..count).map(|_| seeded.next()).collect();
     let mut theirs = ours.clone();
     let mut numbers = [0; 13];
-    let made = (Keeper { words: &mut ours }.make(), Plain { words: &mut theirs }.make());
+    let made = (
+        Keeper { words: &mut ours }.make(),
+        Plain { words: &mut theirs }.make(),
+    );
     if made.0 != made.1 || ours != theirs {
         return Err(format!("make over {count} words: {made:?}"));
     }
@@ -196,12 +212,18 @@ fn compared(seed: u64, count: usize, bookings: usize) -> Result<[u32; 13], Strin
         let call = list.call(&mut plain, name, &subscripts);
         let proved = play(&mut Keeper { words: &mut ours }, name, &subscripts, &call);
         let plain = play(&mut Plain { words: &mut theirs }, name, &subscripts, &call);
-        let place = format!("booking {played} over {count} words, {call:?} at {name} {subscripts:?}");
+        let place =
+            format!("booking {played} over {count} words, {call:?} at {name} {subscripts:?}");
         if proved != plain {
-            return Err(format!("{place}: the keeper answers {proved:?}, the plain Rust {plain:?}"));
+            return Err(format!(
+                "{place}: the keeper answers {proved:?}, the plain Rust {plain:?}"
+            ));
         }
         if let Some(at) = (0..count).find(|at| ours[*at] != theirs[*at]) {
-            return Err(format!("{place}: at {at} the keeper has {:#x}, the plain Rust {:#x}", ours[at], theirs[at]));
+            return Err(format!(
+                "{place}: at {at} the keeper has {:#x}, the plain Rust {:#x}",
+                ours[at], theirs[at]
+            ));
         }
         numbers[proved.told.0 as usize] += 1;
     }
@@ -212,27 +234,42 @@ fn compared(seed: u64, count: usize, bookings: usize) -> Result<[u32; 13], Strin
 pub fn same() -> Result<(), String> {
     for count in [0, 66] {
         let (mut ours, mut theirs) = (vec![5; count], vec![5; count]);
-        let made = (Keeper { words: &mut ours }.make(), Plain { words: &mut theirs }.make());
+        let made = (
+            Keeper { words: &mut ours }.make(),
+            Plain { words: &mut theirs }.make(),
+        );
         if made != ((2, 0), (2, 0)) || ours != theirs {
             return Err(format!("make over {count} words: {made:?}"));
         }
     }
     let mut numbers = [0; 13];
     let mut played = 0;
-    for (seed, count) in [67, 68, 75, 90, 130, 200, 400, 1_024, 4_096, 262_200].into_iter().enumerate() {
+    for (seed, count) in [67, 68, 75, 90, 130, 200, 400, 1_024, 4_096, 262_200]
+        .into_iter()
+        .enumerate()
+    {
         let bookings = if count > 100_000 { 300 } else { 4_000 };
-        for (number, times) in compared(seed as u64, count, bookings)?.into_iter().enumerate() {
+        for (number, times) in compared(seed as u64, count, bookings)?
+            .into_iter()
+            .enumerate()
+        {
             numbers[number] += times;
         }
         played += bookings;
     }
-    println!("{played} bookings were played to both: the same answers, and the same words after each");
+    println!(
+        "{played} bookings were played to both: the same answers, and the same words after each"
+    );
     print!("granted {}", numbers[0]);
     for (number, times) in numbers.iter().enumerate().skip(2) {
         print!(", refused by {number} {times}");
     }
     println!();
-    if numbers.iter().enumerate().any(|(number, times)| number != 1 && *times == 0) {
+    if numbers
+        .iter()
+        .enumerate()
+        .any(|(number, times)| number != 1 && *times == 0)
+    {
         return Err("some refusal never came: the list says too little".to_string());
     }
     Ok(())

@@ -3,7 +3,9 @@
 use crate::calls::{Calls, Plain};
 use crate::clock::{in_turn, nanoseconds, Timed};
 use crate::proved::Keeper;
-use crate::ready::{at, churn, churn_rows, equal_rows, laid, swaps, uneven_rows, Ready, KIND, NAME};
+use crate::ready::{
+    at, churn, churn_rows, equal_rows, laid, swaps, uneven_rows, Ready, KIND, NAME,
+};
 use crate::seeded::Seeded;
 use std::hint::black_box;
 
@@ -36,7 +38,9 @@ const CALLS: usize = 16_384;
 /// Places by chance in a table of rows of 16 words.
 fn places(rows: usize) -> Vec<(usize, i32)> {
     let mut seeded = Seeded(3);
-    (0..CALLS).map(|_| (seeded.below(rows as u64) as usize, seeded.below(16) as i32)).collect()
+    (0..CALLS)
+        .map(|_| (seeded.below(rows as u64) as usize, seeded.below(16) as i32))
+        .collect()
 }
 
 fn reads<K: Calls>(keeper: &mut K, places: &[(usize, i32)]) -> f64 {
@@ -63,32 +67,50 @@ fn elements(count: usize, lines: &mut Vec<Line>) {
     let ready = laid(count, &equal_rows(count, 16, 0));
     let places = places(ready.rows.len());
     let (mut ours, mut theirs, mut rows) = (ready.words.clone(), ready.words, ready.rows);
-    lines.push(line("read", count, 60, &mut [
-        &mut || reads(&mut Keeper { words: &mut ours }, &places),
-        &mut || reads(&mut Plain { words: &mut theirs }, &places),
-        &mut || {
-            let time = nanoseconds(|| {
-                for (row, element) in &places {
-                    black_box(black_box(&rows).get(*row).and_then(|list| list.get(*element as usize)).copied());
-                }
-            });
-            time / places.len() as f64
-        },
-    ]));
-    lines.push(line("write", count, 60, &mut [
-        &mut || writes(&mut Keeper { words: &mut ours }, &places),
-        &mut || writes(&mut Plain { words: &mut theirs }, &places),
-        &mut || {
-            let time = nanoseconds(|| {
-                for (row, element) in &places {
-                    if let Some(word) = black_box(&mut rows).get_mut(*row).and_then(|list| list.get_mut(*element as usize)) {
-                        *word = *row as u64;
+    lines.push(line(
+        "read",
+        count,
+        60,
+        &mut [
+            &mut || reads(&mut Keeper { words: &mut ours }, &places),
+            &mut || reads(&mut Plain { words: &mut theirs }, &places),
+            &mut || {
+                let time = nanoseconds(|| {
+                    for (row, element) in &places {
+                        black_box(
+                            black_box(&rows)
+                                .get(*row)
+                                .and_then(|list| list.get(*element as usize))
+                                .copied(),
+                        );
                     }
-                }
-            });
-            time / places.len() as f64
-        },
-    ]));
+                });
+                time / places.len() as f64
+            },
+        ],
+    ));
+    lines.push(line(
+        "write",
+        count,
+        60,
+        &mut [
+            &mut || writes(&mut Keeper { words: &mut ours }, &places),
+            &mut || writes(&mut Plain { words: &mut theirs }, &places),
+            &mut || {
+                let time = nanoseconds(|| {
+                    for (row, element) in &places {
+                        if let Some(word) = black_box(&mut rows)
+                            .get_mut(*row)
+                            .and_then(|list| list.get_mut(*element as usize))
+                        {
+                            *word = *row as u64;
+                        }
+                    }
+                });
+                time / places.len() as f64
+            },
+        ],
+    ));
 }
 
 fn row_reads<K: Calls>(keeper: &mut K, list: &mut [u64]) -> f64 {
@@ -115,31 +137,41 @@ fn rows_of_a_thousand(count: usize, lines: &mut Vec<Line>) {
     let (mut ours, mut theirs, mut rows) = (ready.words.clone(), ready.words, ready.rows);
     let mut list = vec![9; 1_000];
     let mut lists = (list.clone(), list.clone());
-    lines.push(line("read a row of 1,000", count, 60, &mut [
-        &mut || row_reads(&mut Keeper { words: &mut ours }, &mut lists.0),
-        &mut || row_reads(&mut Plain { words: &mut theirs }, &mut lists.1),
-        &mut || {
-            let time = nanoseconds(|| {
-                for _ in 0..512 {
-                    list.copy_from_slice(&black_box(&rows)[0]);
-                    black_box(&mut list);
-                }
-            });
-            time / 512.0
-        },
-    ]));
-    lines.push(line("write a row of 1,000", count, 60, &mut [
-        &mut || row_writes(&mut Keeper { words: &mut ours }, &list),
-        &mut || row_writes(&mut Plain { words: &mut theirs }, &list),
-        &mut || {
-            let time = nanoseconds(|| {
-                for _ in 0..512 {
-                    black_box(&mut rows)[0].copy_from_slice(black_box(&list));
-                }
-            });
-            time / 512.0
-        },
-    ]));
+    lines.push(line(
+        "read a row of 1,000",
+        count,
+        60,
+        &mut [
+            &mut || row_reads(&mut Keeper { words: &mut ours }, &mut lists.0),
+            &mut || row_reads(&mut Plain { words: &mut theirs }, &mut lists.1),
+            &mut || {
+                let time = nanoseconds(|| {
+                    for _ in 0..512 {
+                        list.copy_from_slice(&black_box(&rows)[0]);
+                        black_box(&mut list);
+                    }
+                });
+                time / 512.0
+            },
+        ],
+    ));
+    lines.push(line(
+        "write a row of 1,000",
+        count,
+        60,
+        &mut [
+            &mut || row_writes(&mut Keeper { words: &mut ours }, &list),
+            &mut || row_writes(&mut Plain { words: &mut theirs }, &list),
+            &mut || {
+                let time = nanoseconds(|| {
+                    for _ in 0..512 {
+                        black_box(&mut rows)[0].copy_from_slice(black_box(&list));
+                    }
+                });
+                time / 512.0
+            },
+        ],
+    ));
 }
 
 fn churns(count: usize, percent: usize, lines: &mut Vec<Line>) {
@@ -147,45 +179,68 @@ fn churns(count: usize, percent: usize, lines: &mut Vec<Line>) {
     let mut ready = laid(count, &lengths);
     // First the gaps become as scattered as they then stay.
     let before = swaps(1, lengths.len(), 4 * lengths.len());
-    churn(&mut Plain { words: &mut ready.words }, &mut lengths, &before);
+    churn(
+        &mut Plain {
+            words: &mut ready.words,
+        },
+        &mut lengths,
+        &before,
+    );
     let pairs = swaps(2, lengths.len(), 1_000);
     let calls = (4 * pairs.len()) as f64;
     let (mut ours, mut theirs, mut rows) = (ready.words.clone(), ready.words.clone(), ready.rows);
-    lines.push(line(&format!("take and free, {percent} percent full"), count, 21, &mut [
-        &mut || {
-            ours.copy_from_slice(&ready.words);
-            let mut lengths = lengths.clone();
-            nanoseconds(|| churn(&mut Keeper { words: &mut ours }, &mut lengths, &pairs)) / calls
-        },
-        &mut || {
-            theirs.copy_from_slice(&ready.words);
-            let mut lengths = lengths.clone();
-            nanoseconds(|| churn(&mut Plain { words: &mut theirs }, &mut lengths, &pairs)) / calls
-        },
-        &mut || {
-            let mut lengths = lengths.clone();
-            nanoseconds(|| churn_rows(&mut rows, &mut lengths, &pairs)) / calls
-        },
-    ]));
+    lines.push(line(
+        &format!("take and free, {percent} percent full"),
+        count,
+        21,
+        &mut [
+            &mut || {
+                ours.copy_from_slice(&ready.words);
+                let mut lengths = lengths.clone();
+                nanoseconds(|| churn(&mut Keeper { words: &mut ours }, &mut lengths, &pairs))
+                    / calls
+            },
+            &mut || {
+                theirs.copy_from_slice(&ready.words);
+                let mut lengths = lengths.clone();
+                nanoseconds(|| churn(&mut Plain { words: &mut theirs }, &mut lengths, &pairs))
+                    / calls
+            },
+            &mut || {
+                let mut lengths = lengths.clone();
+                nanoseconds(|| churn_rows(&mut rows, &mut lengths, &pairs)) / calls
+            },
+        ],
+    ));
     assert_eq!(ours, theirs);
 }
 
 /// A call that is made once on a store made ready, and again on a fresh copy. Both stores end the same.
-fn once(what: &str, ready: &Ready, call: impl Fn(&mut dyn Calls), beside: &mut dyn FnMut() -> f64) -> Line {
+fn once(
+    what: &str,
+    ready: &Ready,
+    call: impl Fn(&mut dyn Calls),
+    beside: &mut dyn FnMut() -> f64,
+) -> Line {
     let count = ready.words.len();
     let (mut ours, mut theirs) = (ready.words.clone(), ready.words.clone());
     let rounds = if count > 100_000 { 80 } else { 300 };
-    let made = line(what, count, rounds, &mut [
-        &mut || {
-            ours.copy_from_slice(&ready.words);
-            nanoseconds(|| call(&mut Keeper { words: &mut ours }))
-        },
-        &mut || {
-            theirs.copy_from_slice(&ready.words);
-            nanoseconds(|| call(&mut Plain { words: &mut theirs }))
-        },
-        beside,
-    ]);
+    let made = line(
+        what,
+        count,
+        rounds,
+        &mut [
+            &mut || {
+                ours.copy_from_slice(&ready.words);
+                nanoseconds(|| call(&mut Keeper { words: &mut ours }))
+            },
+            &mut || {
+                theirs.copy_from_slice(&ready.words);
+                nanoseconds(|| call(&mut Plain { words: &mut theirs }))
+            },
+            beside,
+        ],
+    );
     assert_eq!(ours, theirs);
     made
 }
@@ -193,16 +248,27 @@ fn once(what: &str, ready: &Ready, call: impl Fn(&mut dyn Calls), beside: &mut d
 /// A full store with one gap at the front: everything moves.
 fn tidies(count: usize, lines: &mut Vec<Line>) {
     let mut ready = laid(count, &equal_rows(count, 16, 0));
-    assert_eq!(Plain { words: &mut ready.words }.free(NAME, &at(0)), (0, 0));
+    assert_eq!(
+        Plain {
+            words: &mut ready.words
+        }
+        .free(NAME, &at(0)),
+        (0, 0)
+    );
     let mut words = ready.words.clone();
     let first = 66 + ready.rows.len();
-    lines.push(once("tidy of a full store", &ready, |keeper| keeper.tidy(), &mut || {
-        words.copy_from_slice(&ready.words);
-        nanoseconds(|| {
-            words.copy_within(first + 17.., first);
-            black_box(&mut words);
-        })
-    }));
+    lines.push(once(
+        "tidy of a full store",
+        &ready,
+        |keeper| keeper.tidy(),
+        &mut || {
+            words.copy_from_slice(&ready.words);
+            nanoseconds(|| {
+                words.copy_within(first + 17.., first);
+                black_box(&mut words);
+            })
+        },
+    ));
 }
 
 /// One word comes in before the first of the lowest row of a store that is closed up and nearly full: all others move.
@@ -237,10 +303,15 @@ fn frees(count: usize, lines: &mut Vec<Line>) {
     let n = 40_000 * count / 262_144;
     let ready = laid(count, &vec![4; n]);
     let call = |keeper: &mut dyn Calls| assert_eq!(keeper.free(NAME, &[]), (0, 0));
-    lines.push(once("free of a table of many rows", &ready, call, &mut || {
-        let rows = ready.rows.clone();
-        nanoseconds(|| drop(black_box(rows)))
-    }));
+    lines.push(once(
+        "free of a table of many rows",
+        &ready,
+        call,
+        &mut || {
+            let rows = ready.rows.clone();
+            nanoseconds(|| drop(black_box(rows)))
+        },
+    ));
 }
 
 /// All of it, over a store of so many words, or what the filter names alone.
