@@ -5,22 +5,27 @@ use std::io;
 use store::Store;
 use telling::{element_of, tell};
 
-/// Tells of each name under which something is open how many items either keeper counts there.
+/// Tells of each name under which something is open how many items either keeper counts there, and under how many names both count the same.
 pub(crate) fn compare<R: Store, Q: Store>(
     rt: &impl Print,
     receivables: &Keeper<R>,
     treasury: &Keeper<Q>,
 ) -> io::Result<()> {
     println!(rt; "Open items afterwards:")?;
+    let mut same = 0u64;
     for name in 1..=NAMES {
-        match both_count(receivables, treasury, name) {
-            Ok((0, 0)) => {}
-            Ok((here, there)) => println!(rt;
-                "  Name {name}: receivables counts {here}, treasury counts {there}."
-            )?,
-            Err(refusal) => tell(rt, refusal)?,
+        let (here, there) = match both_count(receivables, treasury, name) {
+            Ok(counts) => counts,
+            Err(refusal) => return tell(rt, refusal),
+        };
+        if here == there {
+            same = same.saturating_add(1);
+        }
+        if here != 0 || there != 0 {
+            println!(rt; "  Name {name}: receivables counts {here}, treasury counts {there}.")?;
         }
     }
+    println!(rt; "  Both count the same under {same} of {NAMES} names.")?;
     let here = receivables.total();
     let there = treasury.total();
     println!(rt; "  Receivables has {here} free words, treasury {there}.")
