@@ -74,7 +74,7 @@ pub enum Reply {
 }
 
 /// The words for the two sorts of arrays.
-pub fn sort(codes: bool) -> &'static str {
+fn sort(codes: bool) -> &'static str {
     if codes { "codes" } else { "data" }
 }
 

@@ -50,7 +50,7 @@ impl From<ParseIntError> for Fault {
 
 impl Line {
     /// Reads a line, whose fields are separated by single spaces. Of several faults the first counts, after that of its form.
-    pub fn read(alloc: Global, line: &str) -> Result<Line, Fault> {
+    pub(crate) fn read(alloc: Global, line: &str) -> Result<Line, Fault> {
         let fields: Vec<&str> = line.split(' ').collect(alloc)?;
         match *fields.as_slice() {
             ["count", count] => Ok(Line::Count(count.parse()?)),

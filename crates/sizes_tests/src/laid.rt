@@ -7,34 +7,38 @@ use store::{Store, word};
 // Codewords, headers and gaps are made by hand here and below, so that no test leans on the packing that it tests.
 
 // The codeword of a row of amounts from subscript 1 on.
-pub fn row(first: u64, n: u64) -> u64 {
+pub(crate) fn row(first: u64, n: u64) -> u64 {
     first | n << 18 | 1 << 36 | 1 << 56
 }
 
 // The codeword of a block of codewords from subscript 1 on.
-pub fn table(first: u64, n: u64) -> u64 {
+pub(crate) fn table(first: u64, n: u64) -> u64 {
     first | n << 18 | 1 << 36 | 1 << 54
 }
 
 // The header, or the first word of a gap: a size and the next address.
-pub fn gap(size: u64, next: u64) -> u64 {
+pub(crate) fn gap(size: u64, next: u64) -> u64 {
     size | next << 18
 }
 
 // Each word of the list stands at the address beside it.
-pub fn stands<S: Store>(rt: &impl Abort, keeper: &Keeper<S>, words: &[(u64, u64)]) {
+pub(crate) fn stands<S: Store>(rt: &impl Abort, keeper: &Keeper<S>, words: &[(u64, u64)]) {
     for (at, expected) in words {
         assert_eq!(rt; word(&keeper.store, *at), *expected);
     }
 }
 
 // Takes a row of n amounts from subscript 1 on.
-pub fn take_row<S: Store>(keeper: &mut Keeper<S>, trace: &Trace, n: u64) -> Result<(), Refusal> {
+pub(crate) fn take_row<S: Store>(
+    keeper: &mut Keeper<S>,
+    trace: &Trace,
+    n: u64,
+) -> Result<(), Refusal> {
     keeper.take(trace, Shape::row::<Amounts>(1, n))
 }
 
 // Three amounts under name 1 and two under name 2.
-pub fn two_rows<S: Store>(keeper: &mut Keeper<S>) -> Result<(), Refusal> {
+pub(crate) fn two_rows<S: Store>(keeper: &mut Keeper<S>) -> Result<(), Refusal> {
     keeper.make()?;
     take_row(keeper, &Trace::new(1)?, 3)?;
     keeper.write_row::<Amounts>(&Trace::new(1)?, 1, &[5, 6, 7])?;
@@ -42,7 +46,7 @@ pub fn two_rows<S: Store>(keeper: &mut Keeper<S>) -> Result<(), Refusal> {
 }
 
 // A table of four rows, of 1 to 4 amounts, under name 3.
-pub fn four_rows<S: Store>(keeper: &mut Keeper<S>) -> Result<(), Refusal> {
+pub(crate) fn four_rows<S: Store>(keeper: &mut Keeper<S>) -> Result<(), Refusal> {
     keeper.make()?;
     keeper.take(&Trace::new(3)?, Shape::table(1, 4))?;
     for n in 1..5u8 {
