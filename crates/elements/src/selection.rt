@@ -29,6 +29,7 @@ fn row_of(code: u64, kind: u64, subscript: i32, step: u8) -> Result<(u64, u64), 
 
 /// The data element at the end of a trace: its address, and how many there are from it on, a pair as in the definition.
 #[tactic(auto, unfolding(layout::specs::Elements::row_found))]
+#[inline(always)]
 pub fn row<S: Store>(
     store: &S,
     trace: &Trace,

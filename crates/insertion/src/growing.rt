@@ -21,6 +21,7 @@ fn put_label<S: Store>(store: &mut S, at: u64, label: Codeword)
 /// Brings `n` words of 0 in before an element of the block that a codeword labels, with room behind it. The word before the block says
 /// where the codeword stands.
 #[tactic(auto, using(crate::proofs::Lifts::length_lifted, placement::proofs::Moves::length_renewed, store::proofs::Zeroed::length_zeroed))]
+#[inline(always)]
 pub fn grow<S: Store>(store: &mut S, label: Codeword, element: u64, n: u64)
     requires { InWidth label × (element ≤ label.length) × (n < 262144) }
     ensures grows { InWidth (longer n label) → S.Store.words store.new ≡ grown_words label element n (S.Store.words store.old) }

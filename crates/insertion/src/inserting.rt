@@ -33,6 +33,7 @@ fn opening_of(code: u64, subscript: i32, step: u8) -> Result<(Codeword, u64), Re
 
 /// The same at the end of a trace, a pair as in the definition.
 #[tactic(auto, unfolding(crate::specs::Openings::opened))]
+#[inline(always)]
 fn opening<S: Store>(store: &S, trace: &Trace, subscript: i32) -> Result<(Codeword, u64), Refusal>
     ensures { result ≡ opened (S.Store.words store.now) trace.now subscript }
 {

@@ -6,6 +6,7 @@ use store::{Store, put, word};
 
 /// Moves the words at these addresses up by `by` addresses, the last first.
 #[tactic(auto, using(crate::proofs::Lifts::lifted_next, crate::proofs::Lifts::lifted_none))]
+#[inline(always)]
 pub fn move_up<S: Store>(store: &mut S, words: Range<u64>, by: u64)
     requires { words.end + by < 2 ^ 64 }
     ensures words { S.Store.words store.new ≡ lifted (words.end - words.start) words.start by (S.Store.words store.old) }

@@ -31,6 +31,7 @@ impl Rise {
 
 /// Has the block whose back-reference stands at `at`, and its codeword, name the addresses where both will stand. Answers how many words
 /// the block has.
+#[inline(always)]
 fn rename<S: Store>(store: &mut S, at: u64, rise: Rise) -> u64
     requires { at < 262144 }
     ensures size { result ≡ block_size (S.Store.words store.old) at }
@@ -47,6 +48,7 @@ fn rename<S: Store>(store: &mut S, at: u64, rise: Rise) -> u64
 
 /// All blocks from an address on go up, and the one gap behind them gives the words.
 #[tactic(auto, using(crate::proofs::Lifts::length_lifted, placement::proofs::Tail::length_gap_from))]
+#[inline(always)]
 pub fn raise<S: Store>(store: &mut S, rise: Rise)
     ensures raises { Raises rise.point rise.by (S.Store.words store.old) (S.Store.words store.new) }
     ensures count { length (S.Store.words store.new) ≡ length (S.Store.words store.old) }

@@ -1,7 +1,7 @@
 -- The list functions that the loops compute: each turn, and each word after.
 use Rattle.std.proofs.Common.{◌≡◌, ℕ, zero, suc, ◌+◌, ◌-◌, ◌<◌, ◌≤◌, Bool, cond, ltb, ◌≢◌, ◌⊎◌, List, length, get_or, set, sym, refl, ap, ◌∙◌, inl, inr, add-one, arith}
 use Rattle.codeword.specs.Codeword.{unpacked}
-use Rattle.std.proofs.lemmas.List.{get_or_past, get_or-set_other, get_or-set_same, length-set, set_past}
+use Rattle.std.proofs.lemmas.List.{get_or_past, get_or-set_other, get_or-set_same, length-set, set-get_or, set_past}
 use Rattle.std.proofs.lemmas.Bool.{cases_eq, cases_lt, cond_both}
 use Rattle.layout.proofs.Step.{copied_above, copied_below, copied_in, copied_word}
 use Rattle.placement.specs.Moves.{aimed, copied, renewed, renewed_at, stepped}
@@ -105,6 +105,15 @@ module _ (s i at : ℕ) (ws us : List ℕ) (lo : s ≤ i) (is : at ≡ i) where
 pub copied_none : (s to : ℕ) (ws : List ℕ) → ws ≡ copied (s - s) s to ws
 unfolding copied
 copied_none s to ws = ap (λ (k : ℕ). copied k s to ws) (let e : 0 ≡ s - s = omega arith in e)
+
+-- words copied onto themselves
+copied_same : (n s : ℕ) (ws : List ℕ) → copied n s s ws ≡ ws
+unfolding copied
+copied_same zero s ws = refl
+copied_same (suc n) s ws = set-get_or (copied n s s ws) (s + n) 0 ∙ copied_same n s ws
+
+pub copied_in_place : (n s by : ℕ) (ws : List ℕ) → by ≡ 0 → ws ≡ copied n s (s - by) ws
+copied_in_place n s by ws e = let f : s - by ≡ s = omega arith in rw f (sym (copied_same n s ws))
 
 pub renewed_none : (s : ℕ) (ws : List ℕ) → ws ≡ renewed (s - s) s ws
 unfolding renewed

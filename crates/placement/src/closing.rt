@@ -12,6 +12,7 @@ use layout::FIRST;
 use store::{Store, clear};
 
 /// Makes the words from `at` on the only gap; if there are none, there is no gap.
+#[inline(always)]
 pub fn leave_gap<S: Store>(store: &mut S, at: u64)
     ensures words { S.Store.words store.new ≡ gap_from at (S.Store.words store.old) }
     ensures rest { S.Store.rest store.new ≡ S.Store.rest store.old }
@@ -52,6 +53,7 @@ impl Scan {
 }
 
 /// Passes over a gap, or moves a block down.
+#[inline(always)]
 fn pass<S: Store>(store: &mut S, scan: Scan) -> Scan
     requires { scan.at < 262144 }
     ensures gap { scan.at ≡ scan.link → OverGap scan.at scan.to scan.link (S.Store.words store.old) result.at result.to result.link (S.Store.words store.new) }
@@ -76,6 +78,7 @@ fn pass<S: Store>(store: &mut S, scan: Scan) -> Scan
 
 /// Closes the blocks up from 65, in the order of their addresses, with one gap behind them.
 #[tactic(auto, using(crate::proofs::Tail::length_gap_from))]
+#[inline(always)]
 pub fn tidy<S: Store>(store: &mut S)
     ensures words { Holds (S.Store.words store.old) → S.Store.words store.new ≡ tidied (S.Store.words store.old) }
     ensures count { length (S.Store.words store.new) ≡ length (S.Store.words store.old) }

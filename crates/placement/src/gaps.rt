@@ -39,6 +39,7 @@ fn cut_front<S: Store>(store: &mut S, link: Link, need: u64)
 
 /// The first gap of `need` words gives its front. Answers where that begins, if there is such a gap.
 #[tactic(auto, using(crate::proofs::Search::fit_done))]
+#[inline(always)]
 pub fn first_fit<S: Store>(store: &mut S, need: u64) -> Option<u64>
     ensures finds { (gs : List Piece) → Chained (S.Store.words store.old) gs → Finds need gs (unwrap_or result 0) }
     ensures leaves { (gs : List Piece) → Chained (S.Store.words store.old) gs → 1 ≤ need → PlacedIn need (S.Store.words store.old) gs (unwrap_or result 0) (S.Store.words store.new) (first_fit_of need gs) }

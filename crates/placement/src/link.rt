@@ -36,6 +36,7 @@ fn splice<S: Store>(store: &mut S, link: Link, at: u64, size: u64)
 /// Zeros the `size` words from `at` on and links them into the chain, which is searched from the gap at `from` on. They combine
 /// with none.
 #[tactic(auto, using(crate::proofs::Links::spliced_long, store::proofs::Zeroed::length_zeroed))]
+#[inline(always)]
 pub fn link_gap_after<S: Store>(store: &mut S, from: u64, at: u64, size: u64)
     ensures links { LinksAfter (S.Store.words store.old) from at size (S.Store.words store.new) }
     ensures count { length (S.Store.words store.new) ≡ length (S.Store.words store.old) }

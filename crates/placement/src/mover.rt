@@ -6,12 +6,16 @@ use std::ops::Range;
 use store::{Store, put, word};
 
 /// Moves the words at the addresses of a block down by `by` addresses, the first first.
-#[tactic(auto, using(crate::proofs::Moves::copied_next, crate::proofs::Moves::copied_none))]
+#[tactic(auto, using(crate::proofs::Moves::copied_next, crate::proofs::Moves::copied_none, crate::proofs::Moves::copied_in_place))]
+#[inline(always)]
 pub fn move_down<S: Store>(store: &mut S, block: Range<u64>, by: u64)
     requires { by ≤ block.start }
     ensures words { S.Store.words store.new ≡ copied (block.end - block.start) block.start (block.start - by) (S.Store.words store.old) }
     ensures rest { S.Store.rest store.new ≡ S.Store.rest store.old }
 {
+    if by == 0 {
+        return;
+    }
     for at in block {
         let word = word(store, at);
         put(store, at - by, word);
@@ -19,6 +23,7 @@ pub fn move_down<S: Store>(store: &mut S, block: Range<u64>, by: u64)
 }
 
 /// Renews the back-reference of the block that the codeword at `at` labels, if it labels one.
+#[inline(always)]
 fn renew_one<S: Store>(store: &mut S, at: u64)
     ensures words { S.Store.words store.new ≡ renewed_at at (S.Store.words store.old) }
     ensures rest { S.Store.rest store.new ≡ S.Store.rest store.old }
@@ -31,6 +36,7 @@ fn renew_one<S: Store>(store: &mut S, at: u64)
 
 /// Renews the back-references of the blocks that the codewords at these addresses label.
 #[tactic(auto, using(crate::proofs::Moves::renewed_next, crate::proofs::Moves::renewed_none))]
+#[inline(always)]
 pub fn renew<S: Store>(store: &mut S, codes: Range<u64>)
     ensures words { S.Store.words store.new ≡ renewed (codes.end - codes.start) codes.start (S.Store.words store.old) }
     ensures rest { S.Store.rest store.new ≡ S.Store.rest store.old }
@@ -49,6 +55,7 @@ pub fn aimed(code: u64, first: u64) -> u64
 
 /// Moves the block whose back-reference stands at `from` down to `to`, and answers how many words it has. A type for the two, or for
 /// addresses below 262144, is no plainer, since `pass` alone would make values of it, for this one call.
+#[inline(always)]
 pub fn move_block<S: Store>(store: &mut S, from: u64, to: u64) -> u64
     requires { (to ≤ from) × (from < 262144) }
     ensures size { result ≡ block_size (S.Store.words store.old) from }
