@@ -2,6 +2,7 @@
 use Rattle.std.proofs.Common.{◌≡◌, ℕ, zero, suc, ◌+◌, ◌-◌, ◌<◌, ◌≤◌, List, length, get_or, set, sym, refl, ap, ◌∙◌, inl, inr, arith}
 use Rattle.std.proofs.lemmas.List.{get_or-set_other, get_or-set_same, length-set}
 use Rattle.std.proofs.lemmas.Bool.{cases_eq}
+use Rattle.store.specs.Edits.{raised}
 use Rattle.insertion.specs.Raises.{lifted}
 
 pub length_lifted : (n from by : ℕ) (ws : List ℕ) → length (lifted n from by ws) ≡ length ws
@@ -52,3 +53,12 @@ lifted_next from end end' at by w ws more is back read =
 pub lifted_none : (from end by : ℕ) (ws : List ℕ) → end ≤ from → lifted (end - from) from by ws ≡ ws
 unfolding lifted
 lifted_none from end by ws h = ap (λ (k : ℕ). lifted k from by ws) (let e : end - from ≡ 0 = omega arith in e)
+
+-- as the store moves them
+raised_is : (n from by : ℕ) (ws : List ℕ) → raised n from by ws ≡ lifted n from by ws
+unfolding raised lifted
+raised_is zero from by ws = refl
+raised_is (suc i) from by ws = raised_is i from by _
+
+pub lifted_raised : (n from by : ℕ) (ws us : List ℕ) → us ≡ raised n from by ws → us ≡ lifted n from by ws
+lifted_raised n from by ws us e = e ∙ raised_is n from by ws

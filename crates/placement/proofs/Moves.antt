@@ -4,6 +4,7 @@ use Rattle.codeword.specs.Codeword.{unpacked}
 use Rattle.std.proofs.lemmas.List.{get_or_past, get_or-set_other, get_or-set_same, length-set, set-get_or, set_past}
 use Rattle.std.proofs.lemmas.Bool.{cases_eq, cases_lt, cond_both}
 use Rattle.layout.proofs.Step.{copied_above, copied_below, copied_in, copied_word}
+use Rattle.store.specs.Edits.{moved}
 use Rattle.placement.specs.Moves.{aimed, copied, renewed, renewed_at, stepped}
 
 -- after a set the word at k is the new one, at its address within the words, and else the old one
@@ -114,6 +115,15 @@ copied_same (suc n) s ws = set-get_or (copied n s s ws) (s + n) 0 ∙ copied_sam
 
 pub copied_in_place : (n s by : ℕ) (ws : List ℕ) → by ≡ 0 → ws ≡ copied n s (s - by) ws
 copied_in_place n s by ws e = let f : s - by ≡ s = omega arith in rw f (sym (copied_same n s ws))
+
+-- as the store moves them
+pub moved_copied : (n from to : ℕ) (ws : List ℕ) → moved n from to ws ≡ copied n from to ws
+unfolding moved copied
+moved_copied zero from to ws = refl
+moved_copied (suc n) from to ws = ap (λ (zs : List ℕ). set zs (to + n) (get_or zs (from + n) 0)) (moved_copied n from to ws)
+
+pub copied_moved : (n from to : ℕ) (ws us : List ℕ) → us ≡ moved n from to ws → us ≡ copied n from to ws
+copied_moved n from to ws us e = e ∙ moved_copied n from to ws
 
 pub renewed_none : (s : ℕ) (ws : List ℕ) → ws ≡ renewed (s - s) s ws
 unfolding renewed

@@ -6,7 +6,7 @@ use std::ops::Range;
 use store::{Store, put, word};
 
 /// Moves the words at the addresses of a block down by `by` addresses, the first first.
-#[tactic(auto, using(crate::proofs::Moves::copied_next, crate::proofs::Moves::copied_none, crate::proofs::Moves::copied_in_place))]
+#[tactic(auto, using(crate::proofs::Moves::copied_next, crate::proofs::Moves::copied_none, crate::proofs::Moves::copied_in_place, crate::proofs::Moves::copied_moved))]
 #[inline(always)]
 pub fn move_down<S: Store>(store: &mut S, block: Range<u64>, by: u64)
     requires { by ≤ block.start }
@@ -14,6 +14,10 @@ pub fn move_down<S: Store>(store: &mut S, block: Range<u64>, by: u64)
     ensures rest { S.Store.rest store.new ≡ S.Store.rest store.old }
 {
     if by == 0 {
+        return;
+    }
+    if block.start <= block.end && block.end <= store.count() {
+        store.move_words(block.start, block.start - by, block.end - block.start);
         return;
     }
     for at in block {

@@ -4,3 +4,4 @@ pub mod Bytes
 pub mod Copies
 pub mod Zeroed
 pub mod Zipped
+pub mod Moved

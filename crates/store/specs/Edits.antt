@@ -1,5 +1,5 @@
 -- What is left after many words were written at once.
-use Rattle.std.specs.Prelude.{ℕ, ◌+◌, ◌-◌, min, List, ◌++◌, length, take, drop, replicate}
+use Rattle.std.specs.Prelude.{ℕ, zero, suc, ◌+◌, ◌-◌, min, List, ◌++◌, length, take, drop, replicate, slice_index, slice_set}
 
 -- a list whose n words from an address on are 0
 unfoldable pub zeros : List ℕ → ℕ → ℕ → List ℕ
@@ -16,3 +16,13 @@ over n xs ys = take n xs ++ drop n ys
 -- one list laid over another, as far as both go
 abbrev pub overlaid : List ℕ → List ℕ → List ℕ
 overlaid xs ys = over (min (length xs) (length ys)) xs ys
+
+-- n words of a list are copied from `from` on to `to` on, one after another
+unfoldable pub moved : ℕ → ℕ → ℕ → List ℕ → List ℕ
+moved zero from to ws = ws
+moved (suc i) from to ws = slice_set (moved i from to ws) (to + i) (slice_index (moved i from to ws) (from + i))
+
+-- n words from `from` on are copied up by so many addresses, the last first
+unfoldable pub raised : ℕ → ℕ → ℕ → List ℕ → List ℕ
+raised zero from by ws = ws
+raised (suc i) from by ws = raised i from by (slice_set ws (from + i + by) (slice_index ws (from + i)))

@@ -1,4 +1,5 @@
-ghost use Rattle.std.specs.Prelude.{◌≡◌, ℕ, ◌<◌, ◌≤◌, List, length, slice_index, slice_set};
+ghost use Rattle.std.specs.Prelude.{◌≡◌, ℕ, ◌+◌, ◌<◌, ◌≤◌, List, length, slice_index, slice_set};
+ghost use Rattle.store.specs.Edits.{moved, raised, zeros};
 ghost use Rattle.store.specs.Rests.{lent_rest};
 ghost use Rattle.store.specs.Words.{Fit, most};
 
@@ -41,6 +42,45 @@ pub struct Bank<'a, E> {
     pub lent: &'a mut [E],
 }
 
+/// Moves the n words from an address on down, the first first. The list is at hand here and not behind a store, so that no turn reads again
+/// where it lies and how long it is.
+#[tactic(auto, using(crate::proofs::Moved::moved_next, crate::proofs::Moved::moved_none, crate::proofs::Moved::length_moved))]
+fn move_in<E: Lendable>(list: &mut [E], from: u64, to: u64, n: u64)
+    requires { (to ≤ from) × (from + n ≤ length (E.Lendable.words list.old)) }
+    ensures after { E.Lendable.words list.new ≡ moved n from to (E.Lendable.words list.old) }
+    ensures rest { E.Lendable.past list.new ≡ E.Lendable.past list.old }
+{
+    for i in 0..n {
+        let word = E::word_of(list, from + i);
+        E::write_word(list, to + i, word);
+    }
+}
+
+/// Moves the n words from an address on up by so many addresses, the last first.
+#[tactic(auto, using(crate::proofs::Moved::raised_next, crate::proofs::Moved::raised_none))]
+fn raise_in<E: Lendable>(list: &mut [E], from: u64, by: u64, n: u64)
+    requires { from + n + by ≤ length (E.Lendable.words list.old) }
+    ensures after { E.Lendable.words list.new ≡ raised n from by (E.Lendable.words list.old) }
+    ensures rest { E.Lendable.past list.new ≡ E.Lendable.past list.old }
+{
+    for i in (0..n).rev() {
+        let word = E::word_of(list, from + i);
+        E::write_word(list, from + i + by, word);
+    }
+}
+
+/// The n words from an address on become 0.
+#[tactic(auto, using(crate::proofs::Copies::zero_none, crate::proofs::Copies::zero_more))]
+fn zero_in<E: Lendable>(list: &mut [E], from: u64, n: u64)
+    requires { from + n ≤ length (E.Lendable.words list.old) }
+    ensures after { E.Lendable.words list.new ≡ zeros (E.Lendable.words list.old) from n }
+    ensures rest { E.Lendable.past list.new ≡ E.Lendable.past list.old }
+{
+    for at in from..from + n {
+        E::write_word(list, at, 0);
+    }
+}
+
 impl<'a, E: Lendable> Store for Bank<'a, E> {
     ghost words = { λ s. E.words s.lent.now };
 
@@ -69,5 +109,17 @@ impl<'a, E: Lendable> Store for Bank<'a, E> {
         } else {
             Err(Refusal::OutsideStore(at))
         }
+    }
+
+    fn move_words(&mut self, from: u64, to: u64, n: u64) {
+        move_in(self.lent, from, to, n);
+    }
+
+    fn raise_words(&mut self, from: u64, by: u64, n: u64) {
+        raise_in(self.lent, from, by, n);
+    }
+
+    fn zero_words(&mut self, from: u64, n: u64) {
+        zero_in(self.lent, from, n);
     }
 }

@@ -6,14 +6,14 @@ use crate::access::put;
 use crate::store::Store;
 
 /// The n words from an address on become 0, as far as there are words.
-#[tactic(auto, using(crate::proofs::Copies::zero_none, crate::proofs::Copies::zero_more))]
+#[tactic(auto, using(crate::proofs::Copies::zero_none, crate::proofs::Copies::zero_all))]
 pub fn clear<S: Store>(store: &mut S, from: u64, n: u64)
     ensures after { S.Store.words store.new ≡ zeroed (S.Store.words store.old) from n }
     ensures rest { S.Store.rest store.new ≡ S.Store.rest store.old }
 {
     let end = from.saturating_add(n).min(store.count());
-    for at in from..end {
-        put(store, at, 0);
+    if from < end {
+        store.zero_words(from, end - from);
     }
 }
 

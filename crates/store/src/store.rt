@@ -1,5 +1,6 @@
-ghost use Rattle.std.specs.Prelude.{◌≡◌, ℕ, ◌≤◌, List, length, slice_set};
+ghost use Rattle.std.specs.Prelude.{◌≡◌, ℕ, ◌+◌, ◌≤◌, List, length, slice_set};
 ghost use Rattle.store.specs.Answers.{get_answer, set_answer};
+ghost use Rattle.store.specs.Edits.{moved, raised, zeros};
 ghost use Rattle.store.specs.Rests.{Rest};
 ghost use Rattle.store.specs.Words.{Fit, most};
 
@@ -36,4 +37,42 @@ pub trait Store {
         ensures answer { result ≡ set_answer (words self.old) at }
         ensures after { words self.new ≡ slice_set (words self.old) at word }
         ensures rest { rest self.new ≡ rest self.old };
+
+    /// Moves the n words from an address on down, the first first.
+    #[tactic(auto, using(crate::proofs::Moved::moved_next, crate::proofs::Moved::moved_none))]
+    fn move_words(&mut self, from: u64, to: u64, n: u64)
+        requires { (to ≤ from) × (from + n ≤ length (words self.old)) }
+        ensures after { words self.new ≡ moved n from to (words self.old) }
+        ensures rest { rest self.new ≡ rest self.old }
+    {
+        for i in 0..n {
+            let word = self.get(from + i).unwrap_or(0);
+            let _ = self.set(to + i, word);
+        }
+    }
+
+    /// Moves the n words from an address on up by so many addresses, the last first.
+    #[tactic(auto, using(crate::proofs::Moved::raised_next, crate::proofs::Moved::raised_none))]
+    fn raise_words(&mut self, from: u64, by: u64, n: u64)
+        requires { from + n + by ≤ length (words self.old) }
+        ensures after { words self.new ≡ raised n from by (words self.old) }
+        ensures rest { rest self.new ≡ rest self.old }
+    {
+        for i in (0..n).rev() {
+            let word = self.get(from + i).unwrap_or(0);
+            let _ = self.set(from + i + by, word);
+        }
+    }
+
+    /// The n words from an address on become 0.
+    #[tactic(auto, using(crate::proofs::Copies::zero_none, crate::proofs::Copies::zero_more))]
+    fn zero_words(&mut self, from: u64, n: u64)
+        requires { from + n ≤ length (words self.old) }
+        ensures after { words self.new ≡ zeros (words self.old) from n }
+        ensures rest { rest self.new ≡ rest self.old }
+    {
+        for at in from..from + n {
+            let _ = self.set(at, 0);
+        }
+    }
 }

@@ -1,6 +1,6 @@
 use Rattle.std.proofs.Common.{◌-◌, arith}
-use Rattle.store.proofs.Copies.{zero_all}
+use Rattle.store.proofs.Copies.{zero_all, zero_none}
 use Rattle.store.proofs.bulk.clear.Goals as goal
 
-pub returns-clause-after : goal.returns-clause-after
-returns-clause-after g c = zero_all _ _ c.args.from c.args.n (c.loop-at.at - c.args.from) c.loop-at.invariant.0 (grind arith)
+pub returns-else-from-end-clause-after : goal.returns-else-from-end-clause-after
+returns-else-from-end-clause-after g c = zero_all _ _ c.args.from c.args.n (c.args.from - c.args.from) (zero_none _ _) (grind arith)
