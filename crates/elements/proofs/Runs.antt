@@ -1,7 +1,7 @@
 -- Where a row of elements begins, and what refusing it owes.
-use Rattle.std.proofs.Common.{◌≡◌, ℕ, ◌+◌, ◌^◌, ◌<◌, ◌≤◌, Bool, true, false, cond, ◌||◌, eqb, ltb, ◌⊎◌, List, map, length, get_or, set, drop, ℤ, Ok, Err, Result, refl, ap, ◌∙◌, sym, subst, inl, inr, arith}
+use Rattle.std.proofs.Common.{◌≡◌, ℕ, ◌+◌, ◌^◌, ◌<◌, ◌≤◌, Bool, true, false, cond, ◌||◌, eqb, ltb, ◌⊎◌, List, [], ◌∷◌, ◌++◌, map, length, get_or, set, take, drop, add-zero, append_assoc, take-append-drop, ℤ, Ok, Err, Result, refl, ap, ◌∙◌, sym, subst, inl, inr, arith}
 use Rattle.std.proofs.lemmas.Bool.Decides.{nat_tests}
-use Rattle.std.proofs.lemmas.List.{at_drop_more}
+use Rattle.std.proofs.lemmas.List.{at_drop_more, drop-set-lt, get_or-drop, get_or-take, length-set, take_more_set}
 use Rattle.booking.specs.Bookings.{RowRead, RowWrite, on, refused}
 use Rattle.booking.specs.declared.refusal.Refusal.{Refusal}
 use Rattle.booking.specs.declared.refusal.Refusal.TheVariants.{BadLength}
@@ -15,6 +15,7 @@ use Rattle.layout.specs.Walks.{and_then}
 use Rattle.layout.specs.Words.{written}
 use Rattle.layout.proofs.Rows.{row_reads, row_refused, row_writes}
 use Rattle.layout.proofs.Runs.{data_cells, found_small, row_read_refused, row_write_refused}
+use Rattle.store.specs.Edits.{laid, part}
 use Rattle.elements.specs.Rows.{run_found}
 
 -- it begins at an element that has as many from it on
@@ -64,6 +65,23 @@ pub one_less : {X : Type 0} (f : X → ℕ) (xs : List X) (k : ℕ) (d : X) → 
 one_less f xs k d h a ws =
     at_drop_more (λ l. written (data_cells (a + k) (map f l)) ws) xs k d h
     ∙ ap (λ b. written (data_cells b (map f (drop (k + 1) xs))) (set ws (a + k) (f (get_or xs k d)))) (omega arith)
+
+-- a row laid over the words is each of its words written
+pub laid_written : (a : ℕ) (vs ws : List ℕ) → a + length vs ≤ length ws → laid vs a ws ≡ written (data_cells a vs) ws
+laid_written a [] ws h = ap (λ k. take a ws ++ drop k ws) (add-zero a) ∙ take-append-drop a ws
+laid_written a (v ∷ vs) ws h =
+    let next : a + length (v ∷ vs) ≡ a + 1 + length vs = omega arith in
+    let front : take (a + 1) (set ws a v) ≡ take a ws ++ v ∷ [] = take_more_set ws a v (omega arith) in
+    let behind : drop (a + 1 + length vs) (set ws a v) ≡ drop (a + 1 + length vs) ws = drop-set-lt (a + 1 + length vs) ws a v (omega arith) in
+    ap (λ k. take a ws ++ (v ∷ (vs ++ drop k ws))) next
+    ∙ sym (append_assoc (take a ws) (v ∷ []) (vs ++ drop (a + 1 + length vs) ws))
+    ∙ ap (λ xs. xs ++ (vs ++ drop (a + 1 + length vs) ws)) (sym front)
+    ∙ ap (λ ys. take (a + 1) (set ws a v) ++ (vs ++ ys)) (sym behind)
+    ∙ laid_written (a + 1) vs (set ws a v) (omega (arith, length-set ws a v))
+
+-- a row read as a part of the words
+pub part_word : (at n : ℕ) (ws us : List ℕ) → us ≡ part at n ws → (k : ℕ) → k < n → get_or us k 0 ≡ get_or ws (at + k) 0
+part_word at n ws us e k h = ap (λ l. get_or l k 0) e ∙ get_or-take n (drop at ws) k 0 h ∙ get_or-drop at ws k 0
 
 -- Over words that hold together, at a subscript as the code has it.
 module _ (ws : List ℕ) (h : Holds ws) (t : Trace) (kind : ℕ) (i z : ℤ) (q : z ≡ i) where

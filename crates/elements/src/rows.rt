@@ -70,6 +70,10 @@ pub fn read_row<S: Store, K: Kind>(
     ensures list { UnlessGranted result (items.new ≡ items.old) }
 {
     let at = run(store, trace, number, subscript, items.len())?;
+    if at + items.len() as u64 <= store.count() {
+        store.read_items::<K>(at, items);
+        return Ok(());
+    }
     // By slice and index too: zipped with the addresses, `iter_mut` would leave nothing known of the list.
     for (k, item) in items.iter_mut().enumerate() {
         *item = K::from_word(word(store, at + k as u64));
@@ -90,6 +94,10 @@ pub fn write_row<S: Store, K: Kind>(
     ensures rest { S.Store.rest store.new ≡ S.Store.rest store.old }
 {
     let at = run(store, trace, number, subscript, items.len())?;
+    if at + items.len() as u64 <= store.count() {
+        store.write_items::<K>(at, items);
+        return Ok(());
+    }
     // By slice and index, as is asked for.
     for (k, item) in items.iter().enumerate() {
         put(store, at + k as u64, K::to_word(*item));

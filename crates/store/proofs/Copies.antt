@@ -1,9 +1,9 @@
 -- Loops that write many words: no word yet, one more, and all.
-use Rattle.std.proofs.Common.{◌≡◌, ℕ, ◌+◌, ◌-◌, ◌<◌, ◌≤◌, min, List, length, get_or, set, replicate, sym, refl, ap, ◌∙◌, add-zero, zero-add, arith}
+use Rattle.std.proofs.Common.{◌≡◌, ℕ, ◌+◌, ◌-◌, ◌<◌, ◌≤◌, min, List, ◌++◌, map, length, length-take, set, take, drop, replicate, sym, ap, ◌∙◌, add-zero, zero-add, arith}
 use lib.Seq.{paste}
-use Rattle.std.proofs.lemmas.List.Edits.{fill_from_more, paste_more}
-use Rattle.std.proofs.lemmas.List.{append-nil, take-append-drop, take-replicate}
-use Rattle.store.specs.Edits.{zeros, zeroed, over}
+use Rattle.std.proofs.lemmas.List.Edits.{fill_from_more}
+use Rattle.std.proofs.lemmas.List.{append-nil, map-id, take-append-drop, take-replicate}
+use Rattle.store.specs.Edits.{laid, over, overlaid, part, zeros, zeroed}
 
 pub zero_none : (ws : List ℕ) (from : ℕ) → ws ≡ zeros ws from (from - from)
 unfolding zeros
@@ -21,13 +21,18 @@ zero_more ws xs from at e l h =
 pub zero_all : (ws xs : List ℕ) (from n k : ℕ) → xs ≡ zeros ws from k → k ≡ min n (length ws - from) → xs ≡ zeroed ws from n
 zero_all ws xs from n k e h = e ∙ ap (zeros ws from) h
 
-pub over_none : (xs ys : List ℕ) → ys ≡ over 0 xs ys
+-- the words of a list are its items; as many as both have are copied
+pub copied_out : (ws xs us : List ℕ) (m n k : ℕ) → map (λ w. w) us ≡ part 0 k ws → k ≡ n → n ≡ min m (length xs) → m ≡ length ws
+    → us ++ drop n xs ≡ overlaid ws xs
 unfolding over
-over_none xs ys = refl
+copied_out ws xs us m n k e h l c =
+    let is : n ≡ min (length ws) (length xs) = omega (arith, l, c) in
+    ap (λ vs. vs ++ drop n xs) (sym (map-id us) ∙ e ∙ ap (λ i. take i ws) h) ∙ ap (λ i. take i ws ++ drop i xs) is
 
-pub over_more : (xs ys zs : List ℕ) (i : ℕ) → zs ≡ over i xs ys → i < length xs → i < length ys → set zs i (get_or xs i 0) ≡ over (i + 1) xs ys
+pub copied_in : (ws xs us : List ℕ) (m n : ℕ) → us ≡ laid (map (λ w. w) (take n xs)) 0 ws → n ≡ min m (length xs) → m ≡ length ws → us ≡ overlaid xs ws
 unfolding over
-over_more xs ys zs i e h l =
-    let all : (n : ℕ) → paste ys 0 xs n ≡ over n xs ys = λ n. rw zero-add in
-    ap (λ s. set s i (get_or xs i 0)) (e ∙ sym (all i)) ∙ ap (λ k. set (paste ys 0 xs i) k (get_or xs i 0)) (sym (zero-add i))
-    ∙ paste_more ys 0 xs i 0 (omega arith) h ∙ all (i + 1)
+copied_in ws xs us m n e l c =
+    let is : n ≡ min (length xs) (length ws) = omega (arith, l, c) in
+    let long : length (take n xs) ≡ n = length-take n xs ∙ omega (arith, l) in
+    e ∙ ap (λ vs. vs ++ drop (0 + length vs) ws) (map-id (take n xs))
+    ∙ ap (λ i. take n xs ++ drop i ws) (zero-add (length (take n xs)) ∙ long) ∙ ap (λ i. take i xs ++ drop i ws) is

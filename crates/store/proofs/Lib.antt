@@ -3,5 +3,5 @@ pub mod Fronts
 pub mod Bytes
 pub mod Copies
 pub mod Zeroed
-pub mod Zipped
 pub mod Moved
+pub mod Items

@@ -26,3 +26,11 @@ moved (suc i) from to ws = slice_set (moved i from to ws) (to + i) (slice_index 
 unfoldable pub raised : ℕ → ℕ → ℕ → List ℕ → List ℕ
 raised zero from by ws = ws
 raised (suc i) from by ws = raised i from by (slice_set ws (from + i + by) (slice_index ws (from + i)))
+
+-- n words of a list from an address on
+abbrev pub part : ℕ → ℕ → List ℕ → List ℕ
+part from n ws = take n (drop from ws)
+
+-- a list laid over another from an address on
+abbrev pub laid : List ℕ → ℕ → List ℕ → List ℕ
+laid xs from ws = take from ws ++ (xs ++ drop (from + length xs) ws)

@@ -1,10 +1,10 @@
-ghost use Rattle.std.specs.Prelude.{◌≡◌, ℕ, ◌+◌, ◌<◌, ◌≤◌, List, length, slice_index, slice_set};
-ghost use Rattle.store.specs.Edits.{moved, raised, zeros};
+ghost use Rattle.std.specs.Prelude.{◌≡◌, ℕ, ◌+◌, ◌<◌, ◌≤◌, List, length, map, slice_index, slice_set};
+ghost use Rattle.store.specs.Edits.{laid, moved, part, raised, zeros};
 ghost use Rattle.store.specs.Rests.{lent_rest};
 ghost use Rattle.store.specs.Words.{Fit, most};
 
 use crate::store::Store;
-use booking::Refusal;
+use booking::{Kind, Refusal};
 
 /// What a list that a caller lends may be made of, and the words that are counted of it.
 pub trait Lendable: Copy {
@@ -81,6 +81,27 @@ fn zero_in<E: Lendable>(list: &mut [E], from: u64, n: u64)
     }
 }
 
+/// Copies as many words as the list of items has, from an address on, into it.
+fn read_in<E: Lendable, K: Kind>(list: &[E], from: u64, items: &mut [K::Item])
+    requires { from + length items.old ≤ length (E.Lendable.words list.now) }
+    ensures { map K.Kind.word items.new ≡ part from (length items.old) (E.Lendable.words list.now) }
+{
+    for (k, item) in items.iter_mut().enumerate() {
+        *item = K::from_word(E::word_of(list, from + k as u64));
+    }
+}
+
+/// Replaces as many words as the list of items has, from an address on.
+fn write_in<E: Lendable, K: Kind>(list: &mut [E], from: u64, items: &[K::Item])
+    requires { from + length items.now ≤ length (E.Lendable.words list.old) }
+    ensures after { E.Lendable.words list.new ≡ laid (map K.Kind.word items.now) from (E.Lendable.words list.old) }
+    ensures rest { E.Lendable.past list.new ≡ E.Lendable.past list.old }
+{
+    for (k, item) in items.iter().enumerate() {
+        E::write_word(list, from + k as u64, K::to_word(*item));
+    }
+}
+
 impl<'a, E: Lendable> Store for Bank<'a, E> {
     ghost words = { λ s. E.words s.lent.now };
 
@@ -103,7 +124,7 @@ impl<'a, E: Lendable> Store for Bank<'a, E> {
     }
 
     fn set(&mut self, at: u64, word: u64) -> Result<(), Refusal> {
-        if at < self.count() {
+        if at < Self::count(self) {
             E::write_word(self.lent, at, word);
             Ok(())
         } else {
@@ -121,5 +142,13 @@ impl<'a, E: Lendable> Store for Bank<'a, E> {
 
     fn zero_words(&mut self, from: u64, n: u64) {
         zero_in(self.lent, from, n);
+    }
+
+    fn read_items<K: Kind>(&self, from: u64, items: &mut [K::Item]) {
+        read_in::<E, K>(self.lent, from, items);
+    }
+
+    fn write_items<K: Kind>(&mut self, from: u64, items: &[K::Item]) {
+        write_in::<E, K>(self.lent, from, items);
     }
 }

@@ -2,8 +2,8 @@
 ghost use Rattle.std.specs.Prelude.{◌≡◌};
 ghost use Rattle.store.specs.Edits.{overlaid, zeroed};
 
-use crate::access::put;
 use crate::store::Store;
+use booking::Words;
 
 /// The n words from an address on become 0, as far as there are words.
 #[tactic(auto, using(crate::proofs::Copies::zero_none, crate::proofs::Copies::zero_all))]
@@ -18,26 +18,18 @@ pub fn clear<S: Store>(store: &mut S, from: u64, n: u64)
 }
 
 /// Copies the words to the front of a list, as far as both go.
-#[tactic(auto, using(crate::proofs::Copies::over_none, crate::proofs::Copies::over_more))]
 pub fn copy_out<S: Store>(store: &S, list: &mut [u64])
     ensures { list.new ≡ overlaid (S.Store.words store.now) list.old }
 {
-    // By index: zipped with the addresses, `iter_mut` would leave nothing known of the list.
-    for (at, slot) in list.iter_mut().enumerate() {
-        let Ok(word) = store.get(at as u64) else {
-            break;
-        };
-        *slot = word;
-    }
+    let n = store.count().min(list.len() as u64) as usize;
+    store.read_items::<Words>(0, &mut list[..n]);
 }
 
 /// Copies a list to the front of the words, as far as both go.
-#[tactic(auto, using(crate::proofs::Copies::over_none, crate::proofs::Copies::over_more))]
 pub fn copy_in<S: Store>(store: &mut S, list: &[u64])
     ensures after { S.Store.words store.new ≡ overlaid list.now (S.Store.words store.old) }
     ensures rest { S.Store.rest store.new ≡ S.Store.rest store.old }
 {
-    for (at, word) in (0..store.count()).zip(list) {
-        put(store, at, *word);
-    }
+    let n = store.count().min(list.len() as u64) as usize;
+    store.write_items::<Words>(0, &list[..n]);
 }

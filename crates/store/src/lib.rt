@@ -6,6 +6,7 @@ mod bank;
 mod bulk;
 mod byte_bank;
 mod joined;
+mod reference;
 mod store;
 mod word_bank;
 

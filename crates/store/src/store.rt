@@ -1,10 +1,10 @@
-ghost use Rattle.std.specs.Prelude.{◌≡◌, ℕ, ◌+◌, ◌≤◌, List, length, slice_set};
+ghost use Rattle.std.specs.Prelude.{◌≡◌, ℕ, ◌+◌, ◌≤◌, List, length, map, slice_set};
 ghost use Rattle.store.specs.Answers.{get_answer, set_answer};
-ghost use Rattle.store.specs.Edits.{moved, raised, zeros};
+ghost use Rattle.store.specs.Edits.{laid, moved, part, raised, zeros};
 ghost use Rattle.store.specs.Rests.{Rest};
 ghost use Rattle.store.specs.Words.{Fit, most};
 
-use booking::Refusal;
+use booking::{Kind, Refusal};
 
 /// The most words that a store counts, as many as 18 bits number.
 pub const MOST: u64 = 262144;
@@ -73,6 +73,27 @@ pub trait Store {
     {
         for at in from..from + n {
             let _ = self.set(at, 0);
+        }
+    }
+
+    /// Copies as many words as the list has, from an address on, into the list, each as an item of the kind.
+    fn read_items<K: Kind>(&self, from: u64, items: &mut [K::Item])
+        requires { from + length items.old ≤ length (words self.now) }
+        ensures { map K.Kind.word items.new ≡ part from (length items.old) (words self.now) }
+    {
+        for (k, item) in items.iter_mut().enumerate() {
+            *item = K::from_word(self.get(from + k as u64).unwrap_or(0));
+        }
+    }
+
+    /// Replaces as many words as the list has, from an address on, by the words of its items.
+    fn write_items<K: Kind>(&mut self, from: u64, items: &[K::Item])
+        requires { from + length items.now ≤ length (words self.old) }
+        ensures after { words self.new ≡ laid (map K.Kind.word items.now) from (words self.old) }
+        ensures rest { rest self.new ≡ rest self.old }
+    {
+        for (k, item) in items.iter().enumerate() {
+            let _ = self.set(from + k as u64, K::to_word(*item));
         }
     }
 }

@@ -8,7 +8,7 @@ use Rattle.layout.proofs.Owed.{passed_on}
 use Rattle.layout.proofs.Runs.{data_cells, row_write_done}
 use Rattle.layout.proofs.Written.{written_length}
 use Rattle.walk.proofs.Refusals.{refusal_kept}
-use Rattle.elements.proofs.Runs.{begun, one_less, run_small, write_off}
+use Rattle.elements.proofs.Runs.{begun, laid_written, one_less, run_small, write_off}
 use Rattle.elements.proofs.rows.write_row.Goals as goal
 
 pub returns-in_err-at-clause-booked : goal.returns-in_err-at-clause-booked
@@ -56,3 +56,19 @@ returns g c =
       count = ap length is ∙ written_length (data_cells a vs) ws;
       rest = c.loop-k.invariant.1;
     }
+
+pub overflow_add-at-in-loop-k : goal.overflow_add-at-in-loop-k
+overflow_add-at-in-loop-k g c = omega (arith, run_small _ _ _ _ _ _ c.in_ok-at.ensures)
+
+pub returns-then-at-items-clause-booked : goal.returns-then-at-items-clause-booked
+returns-then-at-items-clause-booked g c =
+    let ws = g.S.Store.words c.args.store.now in
+    let xs = c.args.items.now in
+    let vs = map g.K.Kind.word xs in
+    let a = c.in_ok-at.at in
+    let n = length-map xs g.K.Kind.word in
+    let x = begun _ _ _ _ _ _ c.in_ok-at.ensures in
+    λ h.
+    row_write_done ws h c.args.trace.now c.args.number c.args.subscript _ (to_z-of_z w32 c.args.subscript c.ranges.subscript) _ _
+    x.found vs (λ e. x.some (omega (arith, n, e))) (omega (arith, n, x.fits)) _
+    (c.write_items.ensures.after ∙ laid_written a vs ws (omega (arith, n, c.if-at-items.true, c.count.ensures)))

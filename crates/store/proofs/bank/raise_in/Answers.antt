@@ -12,6 +12,6 @@ loop-i-preserved g c =
       omega (arith, i.0),
       ap length c.write_word.ensures.after ∙ length-set _ _ _ ∙ i.1,
       ap (raised k c.args.from c.args.by) c.write_word.ensures.after
-      ∙ raised_next c.args.from c.loop-i.i k k c.args.by _ _ refl back c.word_of-word.ensures ∙ i.2,
+          ∙ raised_next c.args.from c.loop-i.i k k c.args.by _ _ refl back c.word_of-word.ensures ∙ i.2,
       c.write_word.ensures.rest ∙ i.3,
     )

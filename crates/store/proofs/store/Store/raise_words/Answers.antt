@@ -21,6 +21,6 @@ loop-i-preserved g c =
       omega (arith, i.0),
       ap length c.set.ensures.after ∙ length-set _ _ _ ∙ i.1,
       ap (raised k c.args.from c.args.by) c.set.ensures.after
-      ∙ raised_next c.args.from c.loop-i.i k k c.args.by _ _ refl back w ∙ i.2,
+          ∙ raised_next c.args.from c.loop-i.i k k c.args.by _ _ refl back w ∙ i.2,
       c.set.ensures.rest ∙ i.3,
     )
