@@ -4,7 +4,6 @@
 mod blocks;
 mod byte_calls;
 mod items;
-mod lent;
 mod reply;
 mod trace;
 mod word_calls;

@@ -12,11 +12,11 @@ ghost use Rattle.ledger.specs.Trees.{free};
 ghost use Rattle.std.specs.Prelude.{◌≡◌, ◌<◌, length, slice_index};
 ghost use Rattle.store.specs.Words.{beyond, lent_words};
 
-use crate::lent::Lent;
 use crate::reply::{Extent, number};
 use crate::{blocks, items};
 use booking::Shape;
 use keeper::Keeper;
+use store::WordBank;
 
 /// Makes the keeper anew: every name labels nothing, and one gap takes up all the words behind the names.
 #[unsafe(no_mangle)]
@@ -25,8 +25,8 @@ pub extern "C" fn keeper_make(words: &mut [u64]) -> u32
     ensures words { lent_words words.new ≡ (made (lent_words words.old)).1 }
     ensures over { beyond words.new ≡ beyond words.old }
 {
-    let mut list = Lent { lent: words };
-    number(Keeper { store: &mut list }.make())
+    let mut bank = WordBank { lent: words };
+    number(Keeper { store: &mut bank }.make())
 }
 
 /// The total of inactive words, as the header has it.
@@ -36,8 +36,8 @@ pub extern "C" fn keeper_total(words: &mut [u64]) -> u64
     ensures free { Holds (lent_words words.old) → result ≡ free (length (lent_words words.old)) (held_trees (lent_words words.old)) }
     ensures same { words.new ≡ words.old }
 {
-    let mut list = Lent { lent: words };
-    Keeper { store: &mut list }.total()
+    let mut bank = WordBank { lent: words };
+    Keeper { store: &mut bank }.total()
 }
 
 /// Closes all blocks up, with one gap behind them. No tree changes.
@@ -46,8 +46,8 @@ pub extern "C" fn keeper_tidy(words: &mut [u64])
     ensures words { Holds (lent_words words.old) → lent_words words.new ≡ tidied (lent_words words.old) }
     ensures over { beyond words.new ≡ beyond words.old }
 {
-    let mut list = Lent { lent: words };
-    Keeper { store: &mut list }.tidy();
+    let mut bank = WordBank { lent: words };
+    Keeper { store: &mut bank }.tidy();
 }
 
 /// Copies all words of the store into a list of just that length.
@@ -57,8 +57,8 @@ pub extern "C" fn keeper_save(words: &mut [u64], list: &mut [u64]) -> u32
     ensures list { list.new ≡ saved (lent_words words.old) list.old }
     ensures same { words.new ≡ words.old }
 {
-    let mut store = Lent { lent: words };
-    number(Keeper { store: &mut store }.save(list))
+    let mut bank = WordBank { lent: words };
+    number(Keeper { store: &mut bank }.save(list))
 }
 
 /// Takes a list, of just the store's length and holding together, as the store's words. Any other is refused, and the store stays as it was.
@@ -67,8 +67,8 @@ pub extern "C" fn keeper_load(words: &mut [u64], list: &[u64]) -> u32
     ensures takes { Takes (lent_words words.old) list.now result (lent_words words.new) }
     ensures over { beyond words.new ≡ beyond words.old }
 {
-    let mut store = Lent { lent: words };
-    number(Keeper { store: &mut store }.load(list))
+    let mut bank = WordBank { lent: words };
+    number(Keeper { store: &mut bank }.load(list))
 }
 
 /// Takes an array at a place: zeros of a type, or codewords that label nothing. What stood there is freed first.
@@ -86,14 +86,14 @@ pub extern "C" fn keeper_take(
     ensures calls { Calls (lent_words words.old) name subscripts.now (Take n base codes kind) (Tells result step.new (lent_words words.new)) }
     ensures over { beyond words.new ≡ beyond words.old }
 {
-    let mut list = Lent { lent: words };
+    let mut bank = WordBank { lent: words };
     let shape = Shape {
         base,
         length: n,
         codes,
         kind,
     };
-    blocks::take(&mut list, name, subscripts, shape, step)
+    blocks::take(&mut bank, name, subscripts, shape, step)
 }
 
 /// Frees the array at a place.
@@ -107,8 +107,8 @@ pub extern "C" fn keeper_free(
     ensures calls { Calls (lent_words words.old) name subscripts.now Free (Tells result step.new (lent_words words.new)) }
     ensures over { beyond words.new ≡ beyond words.old }
 {
-    let mut list = Lent { lent: words };
-    blocks::free(&mut list, name, subscripts, step)
+    let mut bank = WordBank { lent: words };
+    blocks::free(&mut bank, name, subscripts, step)
 }
 
 /// Brings n elements in before the one that the subscript selects, or after the last.
@@ -124,8 +124,8 @@ pub extern "C" fn keeper_insert(
     ensures calls { Calls (lent_words words.old) name subscripts.now (Insert subscript n) (Tells result step.new (lent_words words.new)) }
     ensures over { beyond words.new ≡ beyond words.old }
 {
-    let mut list = Lent { lent: words };
-    blocks::insert(&mut list, name, subscripts, subscript, n, step)
+    let mut bank = WordBank { lent: words };
+    blocks::insert(&mut bank, name, subscripts, subscript, n, step)
 }
 
 /// The n elements from the one that the subscript selects on leave the block, with the arrays below them.
@@ -141,8 +141,8 @@ pub extern "C" fn keeper_delete(
     ensures calls { Calls (lent_words words.old) name subscripts.now (Delete subscript n) (Tells result step.new (lent_words words.new)) }
     ensures over { beyond words.new ≡ beyond words.old }
 {
-    let mut list = Lent { lent: words };
-    blocks::delete(&mut list, name, subscripts, subscript, n, step)
+    let mut bank = WordBank { lent: words };
+    blocks::delete(&mut bank, name, subscripts, subscript, n, step)
 }
 
 /// Gives the block at a place another base.
@@ -157,8 +157,8 @@ pub extern "C" fn keeper_rebase(
     ensures calls { Calls (lent_words words.old) name subscripts.now (Rebase base) (Tells result step.new (lent_words words.new)) }
     ensures over { beyond words.new ≡ beyond words.old }
 {
-    let mut list = Lent { lent: words };
-    blocks::rebase(&mut list, name, subscripts, base, step)
+    let mut bank = WordBank { lent: words };
+    blocks::rebase(&mut bank, name, subscripts, base, step)
 }
 
 /// Two elements of a block of codewords change places, with the arrays below them.
@@ -174,8 +174,8 @@ pub extern "C" fn keeper_exchange(
     ensures calls { Calls (lent_words words.old) name subscripts.now (Exchange one other) (Tells result step.new (lent_words words.new)) }
     ensures over { beyond words.new ≡ beyond words.old }
 {
-    let mut list = Lent { lent: words };
-    blocks::exchange(&mut list, name, subscripts, one, other, step)
+    let mut bank = WordBank { lent: words };
+    blocks::exchange(&mut bank, name, subscripts, one, other, step)
 }
 
 /// What the block at a place is: all 0 where nothing is labelled. Refused, the extent stays as it was.
@@ -190,8 +190,8 @@ pub extern "C" fn keeper_span(
     ensures calls { Calls (lent_words words.old) name subscripts.now Span (Shows result step.new (extent_in extent.old) extent.new) }
     ensures same { words.new ≡ words.old }
 {
-    let mut list = Lent { lent: words };
-    items::span(&mut list, name, subscripts, extent, step)
+    let mut bank = WordBank { lent: words };
+    items::span(&mut bank, name, subscripts, extent, step)
 }
 
 /// One data element of a block of the type. Refused, the word stays as it was.
@@ -208,8 +208,8 @@ pub extern "C" fn keeper_read(
     ensures calls { Calls (lent_words words.old) name subscripts.now (Read kind subscript) (Shows result step.new (word_in word.old) word.new) }
     ensures same { words.new ≡ words.old }
 {
-    let mut list = Lent { lent: words };
-    items::read(&mut list, name, subscripts, kind, subscript, word, step)
+    let mut bank = WordBank { lent: words };
+    items::read(&mut bank, name, subscripts, kind, subscript, word, step)
 }
 
 /// Replaces one data element of a block of the type.
@@ -226,8 +226,8 @@ pub extern "C" fn keeper_write(
     ensures calls { Calls (lent_words words.old) name subscripts.now (Write kind subscript word) (Tells result step.new (lent_words words.new)) }
     ensures over { beyond words.new ≡ beyond words.old }
 {
-    let mut list = Lent { lent: words };
-    items::write(&mut list, name, subscripts, kind, subscript, word, step)
+    let mut bank = WordBank { lent: words };
+    items::write(&mut bank, name, subscripts, kind, subscript, word, step)
 }
 
 /// Copies as many data elements of a block of the type as the row has, from the subscript on, into the row. Refused, the row stays as it was.
@@ -245,8 +245,8 @@ pub extern "C" fn keeper_read_row(
     ensures refused { 0 < result → row.new ≡ row.old }
     ensures same { words.new ≡ words.old }
 {
-    let mut list = Lent { lent: words };
-    items::read_row(&mut list, name, subscripts, kind, subscript, row, step)
+    let mut bank = WordBank { lent: words };
+    items::read_row(&mut bank, name, subscripts, kind, subscript, row, step)
 }
 
 /// Replaces as many data elements of a block of the type as the row has, from the subscript on.
@@ -263,6 +263,6 @@ pub extern "C" fn keeper_write_row(
     ensures calls { Calls (lent_words words.old) name subscripts.now (RowWrite kind subscript row.now) (Tells result step.new (lent_words words.new)) }
     ensures over { beyond words.new ≡ beyond words.old }
 {
-    let mut list = Lent { lent: words };
-    items::write_row(&mut list, name, subscripts, kind, subscript, row, step)
+    let mut bank = WordBank { lent: words };
+    items::write_row(&mut bank, name, subscripts, kind, subscript, row, step)
 }

@@ -6,7 +6,7 @@ use Rattle.keeper_c.proofs.items.read_row.Goals as goal
 
 pub returns-in-Ok-clause-calls : goal.returns-in-Ok-clause-calls
 returns-in-Ok-clause-calls g c =
-    row_done (g.E.Lendable.words c.args.list.now.lent.now) _ _ _ _ c.in-Ok.trace _ _ _ _ _ c.in-Ok.ensures c.read_words.ensures.booked c.read_words.ensures.list (ap (λ (z : ℤ). RowRead c.args.kind z (length c.args.row.now)) (to_z-of_z w32 c.args.subscript c.ranges.subscript))
+    row_done (g.E.Lendable.words c.args.bank.now.lent.now) _ _ _ _ c.in-Ok.trace _ _ _ _ _ c.in-Ok.ensures c.read_words.ensures.booked c.read_words.ensures.list (ap (λ (z : ℤ). RowRead c.args.kind z (length c.args.row.now)) (to_z-of_z w32 c.args.subscript c.ranges.subscript))
     c.answer.ensures.number c.answer.ensures.step
 
 pub returns-in-Ok-clause-refused : goal.returns-in-Ok-clause-refused

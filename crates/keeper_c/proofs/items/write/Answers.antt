@@ -6,5 +6,5 @@ use Rattle.keeper_c.proofs.items.write.Goals as goal
 
 pub returns-in-Ok-clause-calls : goal.returns-in-Ok-clause-calls
 returns-in-Ok-clause-calls g c =
-    done (g.E.Lendable.words c.args.list.now.lent.now) _ _ _ _ _ _ c.in-Ok.trace _ _ _ c.in-Ok.ensures c.write_word.ensures.booked (ap (λ (z : ℤ). Write c.args.kind z c.args.word) (to_z-of_z w32 c.args.subscript c.ranges.subscript)) (search rules)
+    done (g.E.Lendable.words c.args.bank.now.lent.now) _ _ _ _ _ _ c.in-Ok.trace _ _ _ c.in-Ok.ensures c.write_word.ensures.booked (ap (λ (z : ℤ). Write c.args.kind z c.args.word) (to_z-of_z w32 c.args.subscript c.ranges.subscript)) (search rules)
     c.answer.ensures.number c.answer.ensures.step
