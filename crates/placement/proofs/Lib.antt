@@ -1,3 +1,4 @@
+mod Begin
 pub mod Moves
 pub mod Search
 pub mod Merges

@@ -1,5 +1,5 @@
 -- What moving blocks does to a list of words.
-use Rattle.std.specs.Prelude.{◌≡◌, ℕ, zero, suc, ◌+◌, ◌-◌, ◌%◌, ◌^◌, max, cond, List, set, nat_lt, slice_index, slice_index_or, slice_set}
+use Rattle.std.specs.Prelude.{◌≡◌, ℕ, zero, suc, ◌+◌, ◌-◌, ◌%◌, ◌^◌, ◌==◌, max, cond, List, length, set, nat_lt, slice_index, slice_index_or, slice_set}
 use Rattle.codeword.specs.Codeword.{field, unpacked}
 use Rattle.layout.specs.Chains.{next_at, size_at}
 
@@ -33,6 +33,10 @@ stepped from to ws =
     let n : ℕ = (unpacked code).length in
     let there : List ℕ = set (copied (n + 1) from to ws) owner (aimed code (to + 1)) in
     cond (unpacked code).r (renewed n (to + 1) there) there
+
+-- where closing up begins, since nothing moves below the first gap: there, or past the last word where there is no gap
+abbrev pub closing_from : List ℕ → ℕ
+closing_from ws = cond (next_at ws 0 == 0) (length ws) (next_at ws 0)
 
 -- closing up, at `at` with the blocks behind it moved to below `to` and the next gap at `link`, passes over a gap
 abbrev pub OverGap : (at to link : ℕ) → List ℕ → (at' to' link' : ℕ) → List ℕ → Type 0

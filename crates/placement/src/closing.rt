@@ -3,12 +3,11 @@ ghost use Rattle.layout.specs.Chains.{next_at};
 ghost use Rattle.layout.specs.Holds.{Holds};
 ghost use Rattle.layout.specs.Keeping.{tidied};
 ghost use Rattle.placement.specs.Gaps.{gap_from};
-ghost use Rattle.placement.specs.Moves.{OverBlock, OverGap};
+ghost use Rattle.placement.specs.Moves.{OverBlock, OverGap, closing_from};
 
 use crate::chain::{head_at, put_head};
 use crate::mover::move_block;
 use codeword::Head;
-use layout::FIRST;
 use store::{Store, clear};
 
 /// Makes the words from `at` on the only gap; if there are none, there is no gap.
@@ -38,16 +37,18 @@ struct Scan {
 }
 
 impl Scan {
-    /// At the first address that a block or a gap can have, with nothing moved yet.
+    /// At the first gap, or past the last word where there is none: nothing moves below.
     fn from_start<S: Store>(store: &S) -> Scan
-        ensures at { result.at ≡ 65 }
-        ensures to { result.to ≡ 65 }
+        ensures at { result.at ≡ closing_from (S.Store.words store.now) }
+        ensures to { result.to ≡ closing_from (S.Store.words store.now) }
         ensures link { result.link ≡ next_at (S.Store.words store.now) 0 }
     {
+        let link = head_at(store, 0).next;
+        let start = if link == 0 { store.count() } else { link };
         Scan {
-            at: FIRST,
-            to: FIRST,
-            link: head_at(store, 0).next,
+            at: start,
+            to: start,
+            link,
         }
     }
 }
@@ -76,7 +77,7 @@ fn pass<S: Store>(store: &mut S, scan: Scan) -> Scan
     }
 }
 
-/// Closes the blocks up from 65, in the order of their addresses, with one gap behind them.
+/// Closes the blocks up from the first gap, in the order of their addresses, with one gap behind them.
 #[tactic(auto, using(crate::proofs::Tail::length_gap_from))]
 #[inline(always)]
 pub fn tidy<S: Store>(store: &mut S)

@@ -1,5 +1,5 @@
-use Rattle.std.proofs.Common.{refl, ◌∙◌, arith, lit≤}
-use Rattle.layout.proofs.Scan.{tiles, walk_start}
+use Rattle.std.proofs.Common.{refl, ◌∙◌, arith}
+use Rattle.placement.proofs.Begin.{closing_small, walk_begins}
 use Rattle.placement.proofs.Steps.{step_bounds, step_walk}
 use Rattle.placement.proofs.Tail.{tidied_so}
 use Rattle.placement.proofs.closing.tidy.Goals as goal
@@ -7,7 +7,7 @@ use Rattle.placement.proofs.closing.tidy.Goals as goal
 pub loop-scan-init : goal.loop-scan-init
 loop-scan-init g c =
     let e = c.from_start-scan.ensures in
-    (rw e.at (lit≤ tt), refl, refl, λ A o s. ((tiles A o).order, rw (e.at, e.to, e.link) (walk_start A o _ s)))
+    (omega (arith, e.at, closing_small (g.S.Store.words c.args.store.now) (g.S.Store.counted c.args.store.now)), refl, refl, λ A o s. rw (e.at, e.to, e.link) (walk_begins A o _ s))
 
 pub loop-scan-preserved : goal.loop-scan-preserved
 loop-scan-preserved g c =
