@@ -74,7 +74,7 @@ pub fn read_row<S: Store, K: Kind>(
         store.read_items::<K>(at, items);
         return Ok(());
     }
-    // By slice and index too: zipped with the addresses, `iter_mut` would leave nothing known of the list.
+    // Over words that do not hold together a row may reach past the last.
     for (k, item) in items.iter_mut().enumerate() {
         *item = K::from_word(word(store, at + k as u64));
     }
@@ -98,7 +98,7 @@ pub fn write_row<S: Store, K: Kind>(
         store.write_items::<K>(at, items);
         return Ok(());
     }
-    // By slice and index, as is asked for.
+    // Over words that do not hold together a row may reach past the last.
     for (k, item) in items.iter().enumerate() {
         put(store, at + k as u64, K::to_word(*item));
     }

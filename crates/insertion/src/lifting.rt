@@ -16,6 +16,7 @@ pub fn move_up<S: Store>(store: &mut S, words: Range<u64>, by: u64)
         store.raise_words(words.start, by, words.end - words.start);
         return;
     }
+    // Over words that do not hold together a block may reach past the last.
     for at in words.rev() {
         let word = word(store, at);
         put(store, at + by, word);

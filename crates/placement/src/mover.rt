@@ -20,6 +20,7 @@ pub fn move_down<S: Store>(store: &mut S, block: Range<u64>, by: u64)
         store.move_words(block.start, block.start - by, block.end - block.start);
         return;
     }
+    // Over words that do not hold together a block may reach past the last.
     for at in block {
         let word = word(store, at);
         put(store, at - by, word);

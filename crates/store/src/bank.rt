@@ -97,6 +97,7 @@ fn write_in<E: Lendable, K: Kind>(list: &mut [E], from: u64, items: &[K::Item])
     ensures after { E.Lendable.words list.new ≡ laid (map K.Kind.word items.now) from (E.Lendable.words list.old) }
     ensures rest { E.Lendable.past list.new ≡ E.Lendable.past list.old }
 {
+    // By slice and index, as is asked for.
     for (k, item) in items.iter().enumerate() {
         E::write_word(list, from + k as u64, K::to_word(*item));
     }
