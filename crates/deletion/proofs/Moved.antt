@@ -17,8 +17,10 @@ use Rattle.layout.proofs.Place.{along_get}
 use Rattle.layout.proofs.Rewritten.{each_kept, written-++}
 use Rattle.layout.proofs.Step.{copied_above, copied_below, copied_in}
 use Rattle.layout.proofs.Written.{written_other, written_shows}
-use Rattle.placement.proofs.Moves.{copied_at, length_copied}
-use Rattle.placement.specs.Moves.{copied, renewed, renewed_at}
+use Rattle.store.proofs.Moved.{length_copied}
+use Rattle.store.specs.Edits.{copied}
+use Rattle.placement.proofs.Moves.{copied_at}
+use Rattle.placement.specs.Moves.{renewed, renewed_at}
 
 -- ── Words ──────────────────────────────────────────────────────────────
 

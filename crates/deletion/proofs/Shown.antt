@@ -29,8 +29,10 @@ use Rattle.layout.proofs.Releases.{Links, elements}
 use Rattle.layout.proofs.Releasing.{along_drop, along_take, row_part}
 use Rattle.layout.proofs.Relink.{chained}
 use Rattle.layout.proofs.Rewritten.{each_kept, live_shown}
-use Rattle.placement.proofs.Moves.{length_copied, length_renewed}
-use Rattle.placement.specs.Moves.{copied, renewed}
+use Rattle.store.proofs.Moved.{length_copied}
+use Rattle.store.specs.Edits.{copied}
+use Rattle.placement.proofs.Moves.{length_renewed}
+use Rattle.placement.specs.Moves.{renewed}
 use Rattle.deletion.proofs.Behind.{apart, closed, run_both}
 use Rattle.deletion.proofs.Moved.{codes_kept, codes_shown, copied_kept, data_shown}
 use Rattle.deletion.specs.Closing.{closed_up, shut}

@@ -2,7 +2,8 @@
 use Rattle.std.specs.Prelude.{ℕ, ◌+◌, ◌-◌, cond, List, slice_set}
 use Rattle.codeword.specs.Codeword.{packed}
 use Rattle.codeword.specs.declared.Codeword.{Codeword}
-use Rattle.placement.specs.Moves.{copied, renewed}
+use Rattle.placement.specs.Moves.{renewed}
+use Rattle.store.specs.Edits.{copied}
 
 -- the codeword of a block that has n elements fewer
 abbrev pub shorter : Codeword → ℕ → Codeword

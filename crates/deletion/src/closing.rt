@@ -3,8 +3,8 @@ ghost use Rattle.deletion.specs.Closing.{shut};
 ghost use Rattle.std.specs.Prelude.{◌≡◌, ◌+◌, ◌≤◌, length};
 
 use codeword::Codeword;
-use placement::{move_down, renew};
-use store::{Store, put};
+use placement::renew;
+use store::{Store, copy_down, put};
 
 /// The elements behind `n` that leave go down, the first first, and the codeword at `at` says that the block has `n` fewer. The last
 /// `n` words stay as they are.
@@ -16,7 +16,7 @@ pub fn close_up<S: Store>(store: &mut S, at: u64, label: Codeword, element: u64,
 {
     let from = label.first + element;
     let past = label.first + label.length;
-    move_down(store, from + n..past, n);
+    copy_down(store, from + n, from, label.length - element - n);
     if label.r {
         renew(store, from..past - n);
     }

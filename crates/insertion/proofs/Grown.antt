@@ -24,9 +24,10 @@ use Rattle.placement.specs.Moves.{renewed}
 use Rattle.store.specs.Edits.{zeroed}
 use Rattle.store.proofs.Zeroed.{length_zeroed, zeroed_above, zeroed_at, zeroed_below}
 use Rattle.insertion.specs.Openings.{longer, opened_up}
-use Rattle.insertion.specs.Raises.{lifted}
+use Rattle.store.specs.Edits.{lifted}
+use Rattle.store.proofs.Moved.{length_lifted}
 use Rattle.insertion.proofs.Inserted.{come_after, come_before, come_in}
-use Rattle.insertion.proofs.Lifts.{length_lifted, lifted_high, lifted_in, lifted_low}
+use Rattle.insertion.proofs.Lifts.{lifted_high, lifted_in, lifted_low}
 use Rattle.insertion.proofs.Renewed.{is_here, renewed_here, renewed_other}
 
 -- ── Some cells give way to others, which take up more addresses ────────

@@ -1,14 +1,8 @@
--- Words copied up: each turn, and each word after.
+-- Words copied up: each word after.
 use Rattle.std.proofs.Common.{◌≡◌, ℕ, zero, suc, ◌+◌, ◌-◌, ◌<◌, ◌≤◌, List, length, get_or, set, sym, refl, ap, ◌∙◌, inl, inr, arith}
 use Rattle.std.proofs.lemmas.List.{get_or-set_other, get_or-set_same, length-set}
 use Rattle.std.proofs.lemmas.Bool.{cases_eq}
-use Rattle.store.specs.Edits.{raised}
-use Rattle.insertion.specs.Raises.{lifted}
-
-pub length_lifted : (n from by : ℕ) (ws : List ℕ) → length (lifted n from by ws) ≡ length ws
-unfolding lifted
-length_lifted zero from by ws = refl
-length_lifted (suc i) from by ws = length_lifted i from by _ ∙ length-set ws (from + i + by) _
+use Rattle.store.specs.Edits.{lifted}
 
 -- the words below those that are written, the written ones, and those past them
 pub lifted_low : (n from by : ℕ) (ws : List ℕ) (y : ℕ) → y < from + by → get_or (lifted n from by ws) y 0 ≡ get_or ws y 0
@@ -37,28 +31,3 @@ lifted_in (suc i) from by ws fit k h =
           lifted_in i from by vs (omega (arith, length-set ws (from + i + by) (get_or ws (from + i) 0))) k (omega (arith, ne))
           ∙ get_or-set_other ws (from + i + by) (from + k) _ 0 (λ e. omega (arith, ne))
     ]
-
--- ── The loop ───────────────────────────────────────────────────────────
-
-pub lifted_next : (from end end' at by w : ℕ) (ws : List ℕ) → from < end → at ≡ end' → end' + 1 ≡ end → w ≡ get_or ws at 0
-    → lifted (end' - from) from by (set ws (at + by) w) ≡ lifted (end - from) from by ws
-unfolding lifted
-lifted_next from end end' at by w ws more is back read =
-    let e : end - from ≡ suc (end' - from) = omega arith in
-    let p : at ≡ from + (end' - from) = omega arith in
-    ap (λ (v : ℕ). lifted (end' - from) from by (set ws (at + by) v)) read
-    ∙ ap (λ (y : ℕ). lifted (end' - from) from by (set ws (y + by) (get_or ws y 0))) p
-    ∙ sym (ap (λ (k : ℕ). lifted k from by ws) e)
-
-pub lifted_none : (from end by : ℕ) (ws : List ℕ) → end ≤ from → lifted (end - from) from by ws ≡ ws
-unfolding lifted
-lifted_none from end by ws h = ap (λ (k : ℕ). lifted k from by ws) (let e : end - from ≡ 0 = omega arith in e)
-
--- as the store moves them
-raised_is : (n from by : ℕ) (ws : List ℕ) → raised n from by ws ≡ lifted n from by ws
-unfolding raised lifted
-raised_is zero from by ws = refl
-raised_is (suc i) from by ws = raised_is i from by _
-
-pub lifted_raised : (n from by : ℕ) (ws us : List ℕ) → us ≡ raised n from by ws → us ≡ lifted n from by ws
-lifted_raised n from by ws us e = e ∙ raised_is n from by ws

@@ -20,9 +20,11 @@ use Rattle.layout.proofs.Order.{Tile}
 use Rattle.layout.proofs.Relink.{chained}
 use Rattle.placement.specs.Gaps.{gap_from}
 use Rattle.placement.proofs.Tail.{gap_from_below, gap_from_chained, length_gap_from}
-use Rattle.insertion.specs.Raises.{Beside, Raises, lifted}
+use Rattle.insertion.specs.Raises.{Beside, Raises}
+use Rattle.store.specs.Edits.{lifted}
+use Rattle.store.proofs.Moved.{length_lifted}
 use Rattle.insertion.specs.Raises.{above as lift}
-use Rattle.insertion.proofs.Lifts.{length_lifted, lifted_in, lifted_low}
+use Rattle.insertion.proofs.Lifts.{lifted_in, lifted_low}
 use Rattle.insertion.proofs.Renames.{Pass, above_high, above_low, passed_all}
 
 -- ── The cells of the raised blocks ─────────────────────────────────────

@@ -7,9 +7,8 @@ use Rattle.booking.specs.declared.trace.Trace.{Trace}
 use Rattle.codeword.specs.Codeword.{packed, unpacked}
 use Rattle.codeword.specs.declared.Codeword.{Codeword}
 use Rattle.layout.specs.Walks.{and_then, chosen, walked}
-use Rattle.insertion.specs.Raises.{lifted}
 use Rattle.placement.specs.Moves.{renewed}
-use Rattle.store.specs.Edits.{zeroed}
+use Rattle.store.specs.Edits.{lifted, zeroed}
 
 -- the label of a block of n elements more
 abbrev pub longer : ℕ → Codeword → Codeword

@@ -8,11 +8,6 @@ use Rattle.layout.specs.Sound.{Each, Sound}
 use Rattle.layout.specs.Words.{total}
 use Rattle.placement.specs.Moves.{aimed}
 
--- n words from `from` on are copied up by so many addresses, the last first
-unfoldable pub lifted : ℕ → ℕ → ℕ → List ℕ → List ℕ
-lifted zero from by ws = ws
-lifted (suc i) from by ws = lifted i from by (slice_set ws (from + i + by) (slice_index ws (from + i)))
-
 -- where a word stands once those from `point` on have gone up by n
 abbrev pub above : ℕ → ℕ → ℕ → ℕ
 above point n y = cond (nat_lt y point) y (y + n)

@@ -2,10 +2,9 @@ ghost use Rattle.insertion.specs.Openings.{grown_words, longer};
 ghost use Rattle.codeword.specs.Codeword.{InWidth, packed};
 ghost use Rattle.std.specs.Prelude.{◌≡◌, ◌<◌, ◌≤◌, length, slice_set};
 
-use crate::lifting::move_up;
 use codeword::Codeword;
 use placement::renew;
-use store::{Store, clear, put, word};
+use store::{Store, clear, copy_up, put, word};
 
 /// Writes a label, if its fields fit a word.
 fn put_label<S: Store>(store: &mut S, at: u64, label: Codeword)
@@ -20,7 +19,7 @@ fn put_label<S: Store>(store: &mut S, at: u64, label: Codeword)
 
 /// Brings `n` words of 0 in before an element of the block that a codeword labels, with room behind it. The word before the block says
 /// where the codeword stands.
-#[tactic(auto, using(crate::proofs::Lifts::length_lifted, placement::proofs::Moves::length_renewed, store::proofs::Zeroed::length_zeroed))]
+#[tactic(auto, using(store::proofs::Moved::length_lifted, placement::proofs::Moves::length_renewed, store::proofs::Zeroed::length_zeroed))]
 #[inline(always)]
 pub fn grow<S: Store>(store: &mut S, label: Codeword, element: u64, n: u64)
     requires { InWidth label × (element ≤ label.length) × (n < 262144) }
@@ -30,8 +29,8 @@ pub fn grow<S: Store>(store: &mut S, label: Codeword, element: u64, n: u64)
 {
     let place = word(store, label.first.saturating_sub(1));
     let from = label.first + element;
-    let end = label.first + label.length;
-    move_up(store, from..end, n);
+    let behind = label.length - element;
+    copy_up(store, from, n, behind);
     clear(store, from, n);
     let longer = Codeword {
         length: label.length + n,
@@ -39,6 +38,6 @@ pub fn grow<S: Store>(store: &mut S, label: Codeword, element: u64, n: u64)
     };
     put_label(store, place, longer);
     if label.r {
-        renew(store, from + n..end + n);
+        renew(store, from + n..from + n + behind);
     }
 }

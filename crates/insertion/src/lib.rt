@@ -3,7 +3,6 @@
 
 mod growing;
 mod inserting;
-mod lifting;
 mod raising;
 
 pub use inserting::insert;

@@ -2,11 +2,10 @@ ghost use Rattle.insertion.specs.Raises.{Raises, above, renamed_at};
 ghost use Rattle.placement.specs.Moves.{block_size};
 ghost use Rattle.std.specs.Prelude.{◌≡◌, ◌+◌, ◌<◌, ◌^◌, length, slice_index};
 
-use crate::lifting::move_up;
 use codeword::{Codeword, Head};
 use layout::FIRST;
 use placement::{aimed, leave_gap};
-use store::{Store, put, word};
+use store::{Store, copy_up, put, word};
 
 /// Which words go up, and by how much: those from `point` on.
 #[derive(Clone, Copy)]
@@ -47,7 +46,7 @@ fn rename<S: Store>(store: &mut S, at: u64, rise: Rise) -> u64
 }
 
 /// All blocks from an address on go up, and the one gap behind them gives the words.
-#[tactic(auto, using(crate::proofs::Lifts::length_lifted, placement::proofs::Tail::length_gap_from))]
+#[tactic(auto, using(store::proofs::Moved::length_lifted, placement::proofs::Tail::length_gap_from))]
 #[inline(always)]
 pub fn raise<S: Store>(store: &mut S, rise: Rise)
     ensures raises { Raises rise.point rise.by (S.Store.words store.old) (S.Store.words store.new) }
@@ -60,6 +59,6 @@ pub fn raise<S: Store>(store: &mut S, rise: Rise)
     while at < end {
         at += rename(store, at, rise);
     }
-    move_up(store, rise.point..end, rise.by);
+    copy_up(store, rise.point, rise.by, end.saturating_sub(rise.point));
     leave_gap(store, end + rise.by);
 }

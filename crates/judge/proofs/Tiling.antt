@@ -6,6 +6,7 @@ use Rattle.std.proofs.lemmas.Bool.Decides.{nat_tests}
 use Rattle.layout.specs.Holds.{Chain}
 use Rattle.layout.specs.Sound.{Each}
 use Rattle.layout.specs.Words.{first_of, total}
+use Rattle.layout.proofs.Scan.{first_from}
 use Rattle.layout.proofs.Order.{Tile, idle, idles, size, used, useds}
 use Rattle.ledger.specs.Trees.{sum}
 use Rattle.judge.specs.Tiles.{high, is_blank, is_gap, low, outcome, scan, tile_size}
@@ -95,11 +96,6 @@ scan_walks (suc k) ws x next left ms ms' l h =
         }
     gap rec lt e false q = absurd (none-some ms' (sym (scan_no_gap k ws x next left ms lt e q) ∙ h))
 
-first_low : (a : ℕ) (ts : List Tile) → (first_of (idles a ts) ≡ 0) ⊎ (a ≤ first_of (idles a ts))
-first_low a [] = inl refl
-first_low a (idle n ∷ ts) = inr (omega arith)
-first_low a (used n ∷ ts) = elim (first_low (a + n) ts) [ inl e ↦ inl e | inr l ↦ inr (omega arith) ]
-
 pub first_high : (a : ℕ) (ts : List Tile) → Each (λ t. 1 ≤ size t) ts → 1 ≤ a → first_of (idles a ts) < a + sum (map size ts)
 first_high a [] n l = omega arith
 first_high a (idle k ∷ ts) n l = omega (arith, n.0)
@@ -132,7 +128,7 @@ walks_scan (idle m ∷ ts) (suc k) ws x ms small lx lk f n c z =
 walks_scan (used m ∷ ts) (suc k) ws x ms small lx lk f n c z =
     let m1 : 1 ≤ m = n.0 in
     let s : m ≡ tile_size ws x = z.0 in
-    let fl = first_low (x + m) ts in
+    let fl = first_from (x + m) ts in
     let ne : x ≡ first_of (idles (x + m) ts) → ⊥ = λ (q : x ≡ first_of (idles (x + m) ts)). elim fl [ inl e ↦ omega arith | inr l ↦ omega arith ] in
     scan_block k ws x (first_of (idles (x + m) ts)) (total (idles (x + m) ts)) ms (omega arith) ne (omega arith)
     ∙ ap (λ (j : ℕ). scan k ws (x + j) (first_of (idles (x + m) ts)) (total (idles (x + m) ts)) (set ms x true)) (sym s)

@@ -7,6 +7,7 @@ use Rattle.layout.specs.Words.{first_of, total}
 use Rattle.layout.proofs.Bridge.{Fits}
 use Rattle.layout.proofs.Cover.{each_imp, each_perm}
 use Rattle.layout.proofs.Decode.{fits}
+use Rattle.layout.proofs.Freed.{fits_good}
 use Rattle.layout.proofs.Order.{Ordered, Tile, idle, idles, ordered, size, tiled, used, useds}
 use Rattle.ledger.specs.Trees.{sum}
 use Rattle.judge.specs.Arrays.{run, visit}
@@ -15,12 +16,6 @@ use Rattle.judge.specs.Tiles.{high, low, scan, tile_size}
 use Rattle.judge.proofs.Decode.{Read, each_concat, run_clears, run_reads, shown_clears, shown_sized, visit_reads}
 use Rattle.judge.proofs.Starts.{Marked, Sized, all_marked, clears, clears_all, clears_perm, mark_all, starts_perm}
 use Rattle.judge.proofs.Tiling.{first_high, scan_walks, walks_scan}
-
-good_of : (n d : ℕ) (p : Placed d) → Fits n d p → Good d p
-good_of n zero p g = tt
-good_of n (suc d) Vacant g = tt
-good_of n (suc d) (Data s b t ws) g = (g.0, g.3, g.4)
-good_of n (suc d) (Codes s b ps) g = (g.0, g.3, each_imp (Fits n d) (Good d) (good_of n d) ps g.4)
 
 head : (w t f : ℕ) → w ≡ t + 2 ^ 18 * f → t < 2 ^ 18 → f < 2 ^ 18 → (w < 2 ^ 36) × (high w ≡ f) × (low w ≡ t)
 head w t f e h k = omega arith
@@ -64,7 +59,7 @@ module _ (ws : List ℕ) (ms : List Bool) (room : length ws ≤ length ms) (down
             gaps_are = refl;
             blocks_are = clears_perm (tile_size ws) (blocks N.0) (useds 65 W.order) ms₁ ms₂ M W.sized Z C g;
           });
-          good = each_imp (Fits (length ws) 4) (Good 4) (good_of (length ws) 4) N.0 N.3;
+          good = each_imp (Fits (length ws) 4) (Good 4) (fits_good (length ws) 4) N.0 N.3;
         };
         shown = record {
           count = refl;

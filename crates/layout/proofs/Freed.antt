@@ -22,7 +22,7 @@ use Rattle.layout.proofs.Rewritten.{each_kept, live_shown}
 
 -- ── An array that fits ─────────────────────────────────────────────────
 
-fits_good : (n d : ℕ) (p : Placed d) → Fits n d p → Good d p
+pub fits_good : (n d : ℕ) (p : Placed d) → Fits n d p → Good d p
 fits_good n zero p g = tt
 fits_good n (suc d) Vacant g = tt
 fits_good n (suc d) (Data s b t ws) g = (g.0, g.3, g.4)

@@ -4,8 +4,9 @@ use Rattle.codeword.specs.Codeword.{unpacked}
 use Rattle.std.proofs.lemmas.List.{get_or_past, get_or-set_other, get_or-set_same, length-set, set-get_or, set_past}
 use Rattle.std.proofs.lemmas.Bool.{cases_eq, cases_lt, cond_both}
 use Rattle.layout.proofs.Step.{copied_above, copied_below, copied_in, copied_word}
-use Rattle.store.specs.Edits.{moved}
-use Rattle.placement.specs.Moves.{aimed, copied, renewed, renewed_at, stepped}
+use Rattle.store.proofs.Moved.{length_copied}
+use Rattle.store.specs.Edits.{copied}
+use Rattle.placement.specs.Moves.{aimed, renewed, renewed_at, stepped}
 
 -- after a set the word at k is the new one, at its address within the words, and else the old one
 pub at_set : (ws : List ℕ) (a w k : ℕ) → ((k ≡ a) × (a < length ws) × (get_or (set ws a w) k 0 ≡ w)) ⊎ ((k ≡ a → length ws ≤ a) × (get_or (set ws a w) k 0 ≡ get_or ws k 0))
@@ -19,11 +20,6 @@ at_set ws a w k =
     ]
 
 -- ── Words copied, a block moved ────────────────────────────────────────
-
-pub length_copied : (n from to : ℕ) (ws : List ℕ) → length (copied n from to ws) ≡ length ws
-unfolding copied
-length_copied zero from to ws = refl
-length_copied (suc n) from to ws = length-set _ _ _ ∙ length_copied n from to ws
 
 copy_more : (ws vs : List ℕ) (i from to w : ℕ) → to ≤ from → length vs ≡ length ws → ((k : ℕ) → get_or vs k 0 ≡ copied_word i from to ws k)
     → w ≡ get_or vs (from + i) 0 → (k : ℕ) → get_or (set vs (to + i) w) k 0 ≡ copied_word (i + 1) from to ws k
@@ -84,16 +80,6 @@ module _ (s i at : ℕ) (ws us : List ℕ) (lo : s ≤ i) (is : at ≡ i) where
   here : at ≡ s + (i - s)
   here = omega arith
 
-  -- the word at the next address is copied too
-  pub copied_next : (by w : ℕ) → by ≤ s → us ≡ copied (i - s) s (s - by) ws → w ≡ get_or us at 0 → set us (at - by) w ≡ copied (i + 1 - s) s (s - by) ws
-  unfolding copied
-  copied_next by w le e read =
-      let to : at - by ≡ s - by + (i - s) = omega arith in
-      ap (λ (k : ℕ). set us k w) to
-      ∙ ap (set us (s - by + (i - s))) (read ∙ ap (λ (k : ℕ). get_or us k 0) here)
-      ∙ ap (λ (zs : List ℕ). set zs (s - by + (i - s)) (get_or zs (s + (i - s)) 0)) e
-      ∙ ap (λ (k : ℕ). copied k s (s - by) ws) more
-
   -- the block that the codeword at the next address labels is renewed too
   pub renewed_next : us ≡ renewed (i - s) s ws → renewed_at at us ≡ renewed (i + 1 - s) s ws
   unfolding renewed
@@ -101,29 +87,6 @@ module _ (s i at : ℕ) (ws us : List ℕ) (lo : s ≤ i) (is : at ≡ i) where
       ap (λ (k : ℕ). renewed_at k us) here
       ∙ ap (renewed_at (s + (i - s))) e
       ∙ ap (λ (k : ℕ). renewed k s ws) more
-
--- of no words
-pub copied_none : (s to : ℕ) (ws : List ℕ) → ws ≡ copied (s - s) s to ws
-unfolding copied
-copied_none s to ws = ap (λ (k : ℕ). copied k s to ws) (let e : 0 ≡ s - s = omega arith in e)
-
--- words copied onto themselves
-copied_same : (n s : ℕ) (ws : List ℕ) → copied n s s ws ≡ ws
-unfolding copied
-copied_same zero s ws = refl
-copied_same (suc n) s ws = set-get_or (copied n s s ws) (s + n) 0 ∙ copied_same n s ws
-
-pub copied_in_place : (n s by : ℕ) (ws : List ℕ) → by ≡ 0 → ws ≡ copied n s (s - by) ws
-copied_in_place n s by ws e = let f : s - by ≡ s = omega arith in rw f (sym (copied_same n s ws))
-
--- as the store moves them
-pub moved_copied : (n from to : ℕ) (ws : List ℕ) → moved n from to ws ≡ copied n from to ws
-unfolding moved copied
-moved_copied zero from to ws = refl
-moved_copied (suc n) from to ws = ap (λ (zs : List ℕ). set zs (to + n) (get_or zs (from + n) 0)) (moved_copied n from to ws)
-
-pub copied_moved : (n from to : ℕ) (ws us : List ℕ) → us ≡ moved n from to ws → us ≡ copied n from to ws
-copied_moved n from to ws us e = e ∙ moved_copied n from to ws
 
 pub renewed_none : (s : ℕ) (ws : List ℕ) → ws ≡ renewed (s - s) s ws
 unfolding renewed

@@ -11,8 +11,10 @@ use Rattle.layout.proofs.Order.{Tile, idle, used}
 use Rattle.layout.proofs.Scan.{Walk, block_after, block_before, gap_on, moving}
 use Rattle.layout.proofs.Step.{Move, State, block, element_says, half, its_code, label_reads, moves, owner, relabels, renew_end, renew_label, renew_no, renew_none, renew_start}
 use Rattle.std.proofs.lemmas.Bool.{cases_eq, cond-false, cond-true, le-ltb, lt-ltb}
-use Rattle.placement.specs.Moves.{OverBlock, OverGap, aimed, block_size, copied, renewed, renewed_at, stepped}
-use Rattle.placement.proofs.Moves.{copied_at, length_copied, length_stepped, stepped_is}
+use Rattle.placement.specs.Moves.{OverBlock, OverGap, aimed, block_size, renewed, renewed_at, stepped}
+use Rattle.store.proofs.Moved.{length_copied}
+use Rattle.store.specs.Edits.{copied}
+use Rattle.placement.proofs.Moves.{copied_at, length_stepped, stepped_is}
 
 module _ (A : Arrangement) (o : Sound A) (M : Move A) (ws : List ℕ) where
   abbrev f : ℕ → ℕ

@@ -2,11 +2,7 @@
 use Rattle.std.specs.Prelude.{◌≡◌, ℕ, zero, suc, ◌+◌, ◌-◌, ◌%◌, ◌^◌, ◌==◌, max, cond, List, length, set, nat_lt, slice_index, slice_index_or, slice_set}
 use Rattle.codeword.specs.Codeword.{field, unpacked}
 use Rattle.layout.specs.Chains.{next_at, size_at}
-
--- n words are copied from `from` on to `to` on, one after another
-unfoldable pub copied : ℕ → ℕ → ℕ → List ℕ → List ℕ
-copied zero from to ws = ws
-copied (suc i) from to ws = slice_set (copied i from to ws) (to + i) (slice_index (copied i from to ws) (from + i))
+use Rattle.store.specs.Edits.{copied}
 
 -- the block that the codeword at an address labels, if any, gets that address as its back-reference
 abbrev pub renewed_at : ℕ → List ℕ → List ℕ

@@ -13,4 +13,4 @@ pub use chain::free_words;
 pub use closing::{leave_gap, tidy};
 pub use finding::room;
 pub use link::{link_gap, link_gap_after};
-pub use mover::{aimed, move_down, renew};
+pub use mover::{aimed, renew};

@@ -1,31 +1,9 @@
 ghost use Rattle.std.specs.Prelude.{◌≡◌, ◌-◌, ◌<◌, ◌≤◌};
-ghost use Rattle.placement.specs.Moves.{aimed, block_size, copied, renewed, renewed_at, stepped};
+ghost use Rattle.placement.specs.Moves.{aimed, block_size, renewed, renewed_at, stepped};
 
 use codeword::{Codeword, FIELD};
 use std::ops::Range;
-use store::{Store, put, word};
-
-/// Moves the words at the addresses of a block down by `by` addresses, the first first.
-#[tactic(auto, using(crate::proofs::Moves::copied_next, crate::proofs::Moves::copied_none, crate::proofs::Moves::copied_in_place, crate::proofs::Moves::copied_moved))]
-#[inline(always)]
-pub fn move_down<S: Store>(store: &mut S, block: Range<u64>, by: u64)
-    requires { by ≤ block.start }
-    ensures words { S.Store.words store.new ≡ copied (block.end - block.start) block.start (block.start - by) (S.Store.words store.old) }
-    ensures rest { S.Store.rest store.new ≡ S.Store.rest store.old }
-{
-    if by == 0 {
-        return;
-    }
-    if block.start <= block.end && block.end <= store.count() {
-        store.move_words(block.start, block.start - by, block.end - block.start);
-        return;
-    }
-    // Over words that do not hold together a block may reach past the last.
-    for at in block {
-        let word = word(store, at);
-        put(store, at - by, word);
-    }
-}
+use store::{Store, copy_down, put, word};
 
 /// Renews the back-reference of the block that the codeword at `at` labels, if it labels one.
 #[inline(always)]
@@ -70,7 +48,7 @@ pub fn move_block<S: Store>(store: &mut S, from: u64, to: u64) -> u64
     let owner = word(store, from);
     let code = word(store, owner);
     let label = Codeword::unpack(code);
-    move_down(store, from..from + label.length + 1, from - to);
+    copy_down(store, from, to, label.length + 1);
     put(store, owner, aimed(code, to + 1));
     if label.r {
         renew(store, to + 1..to + 1 + label.length);

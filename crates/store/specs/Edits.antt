@@ -18,14 +18,14 @@ abbrev pub overlaid : List ℕ → List ℕ → List ℕ
 overlaid xs ys = over (min (length xs) (length ys)) xs ys
 
 -- n words of a list are copied from `from` on to `to` on, one after another
-unfoldable pub moved : ℕ → ℕ → ℕ → List ℕ → List ℕ
-moved zero from to ws = ws
-moved (suc i) from to ws = slice_set (moved i from to ws) (to + i) (slice_index (moved i from to ws) (from + i))
+unfoldable pub copied : ℕ → ℕ → ℕ → List ℕ → List ℕ
+copied zero from to ws = ws
+copied (suc i) from to ws = slice_set (copied i from to ws) (to + i) (slice_index (copied i from to ws) (from + i))
 
 -- n words from `from` on are copied up by so many addresses, the last first
-unfoldable pub raised : ℕ → ℕ → ℕ → List ℕ → List ℕ
-raised zero from by ws = ws
-raised (suc i) from by ws = raised i from by (slice_set ws (from + i + by) (slice_index ws (from + i)))
+unfoldable pub lifted : ℕ → ℕ → ℕ → List ℕ → List ℕ
+lifted zero from by ws = ws
+lifted (suc i) from by ws = lifted i from by (slice_set ws (from + i + by) (slice_index ws (from + i)))
 
 -- n words of a list from an address on
 abbrev pub part : ℕ → ℕ → List ℕ → List ℕ

@@ -1,5 +1,5 @@
-ghost use Rattle.std.specs.Prelude.{◌≡◌, ℕ, ◌+◌, ◌<◌, ◌≤◌, List, length, map, slice_index, slice_set};
-ghost use Rattle.store.specs.Edits.{laid, moved, part, raised, zeros};
+ghost use Rattle.std.specs.Prelude.{◌≡◌, ℕ, ◌+◌, ◌-◌, ◌<◌, ◌≤◌, List, length, map, slice_index, slice_set};
+ghost use Rattle.store.specs.Edits.{copied, laid, lifted, part, zeros};
 ghost use Rattle.store.specs.Rests.{lent_rest};
 ghost use Rattle.store.specs.Words.{Fit, most};
 
@@ -42,12 +42,12 @@ pub struct Bank<'a, E> {
     pub lent: &'a mut [E],
 }
 
-/// Moves the n words from an address on down, the first first. The list is at hand here and not behind a store, so that no turn reads again
+/// Copies the n words from an address on to those from a lower one on, the first first. The list is at hand here and not behind a store, so that no turn reads again
 /// where it lies and how long it is.
-#[tactic(auto, using(crate::proofs::Moved::moved_next, crate::proofs::Moved::moved_none, crate::proofs::Moved::length_moved))]
-fn move_in<E: Lendable>(list: &mut [E], from: u64, to: u64, n: u64)
-    requires { (to ≤ from) × (from + n ≤ length (E.Lendable.words list.old)) }
-    ensures after { E.Lendable.words list.new ≡ moved n from to (E.Lendable.words list.old) }
+#[tactic(auto, using(crate::proofs::Moved::copied_next, crate::proofs::Moved::copied_none, crate::proofs::Moved::length_copied))]
+fn copy_within<E: Lendable>(list: &mut [E], from: u64, to: u64, n: u64)
+    requires { (to ≤ from) × (n ≤ length (E.Lendable.words list.old) - from) }
+    ensures after { E.Lendable.words list.new ≡ copied n from to (E.Lendable.words list.old) }
     ensures rest { E.Lendable.past list.new ≡ E.Lendable.past list.old }
 {
     for i in 0..n {
@@ -56,11 +56,11 @@ fn move_in<E: Lendable>(list: &mut [E], from: u64, to: u64, n: u64)
     }
 }
 
-/// Moves the n words from an address on up by so many addresses, the last first.
-#[tactic(auto, using(crate::proofs::Moved::raised_next, crate::proofs::Moved::raised_none))]
-fn raise_in<E: Lendable>(list: &mut [E], from: u64, by: u64, n: u64)
-    requires { from + n + by ≤ length (E.Lendable.words list.old) }
-    ensures after { E.Lendable.words list.new ≡ raised n from by (E.Lendable.words list.old) }
+/// Copies the n words from an address on up by so many addresses, the last first.
+#[tactic(auto, using(crate::proofs::Moved::lifted_next, crate::proofs::Moved::lifted_none))]
+fn lift_within<E: Lendable>(list: &mut [E], from: u64, by: u64, n: u64)
+    requires { n ≤ length (E.Lendable.words list.old) - (from + by) }
+    ensures after { E.Lendable.words list.new ≡ lifted n from by (E.Lendable.words list.old) }
     ensures rest { E.Lendable.past list.new ≡ E.Lendable.past list.old }
 {
     for i in (0..n).rev() {
@@ -133,12 +133,12 @@ impl<'a, E: Lendable> Store for Bank<'a, E> {
         }
     }
 
-    fn move_words(&mut self, from: u64, to: u64, n: u64) {
-        move_in(self.lent, from, to, n);
+    fn copy_words(&mut self, from: u64, to: u64, n: u64) {
+        copy_within(self.lent, from, to, n);
     }
 
-    fn raise_words(&mut self, from: u64, by: u64, n: u64) {
-        raise_in(self.lent, from, by, n);
+    fn lift_words(&mut self, from: u64, by: u64, n: u64) {
+        lift_within(self.lent, from, by, n);
     }
 
     fn zero_words(&mut self, from: u64, n: u64) {

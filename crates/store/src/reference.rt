@@ -28,14 +28,14 @@ impl<'b, S: Store> Store for &'b mut S {
         store.set(at, word)
     }
 
-    fn move_words(&mut self, from: u64, to: u64, n: u64) {
+    fn copy_words(&mut self, from: u64, to: u64, n: u64) {
         let store = &mut **self;
-        store.move_words(from, to, n);
+        store.copy_words(from, to, n);
     }
 
-    fn raise_words(&mut self, from: u64, by: u64, n: u64) {
+    fn lift_words(&mut self, from: u64, by: u64, n: u64) {
         let store = &mut **self;
-        store.raise_words(from, by, n);
+        store.lift_words(from, by, n);
     }
 
     fn zero_words(&mut self, from: u64, n: u64) {

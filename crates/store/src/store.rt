@@ -1,6 +1,6 @@
-ghost use Rattle.std.specs.Prelude.{◌≡◌, ℕ, ◌+◌, ◌≤◌, List, length, map, slice_set};
+ghost use Rattle.std.specs.Prelude.{◌≡◌, ℕ, ◌+◌, ◌-◌, ◌≤◌, List, length, map, slice_set};
 ghost use Rattle.store.specs.Answers.{get_answer, set_answer};
-ghost use Rattle.store.specs.Edits.{laid, moved, part, raised, zeros};
+ghost use Rattle.store.specs.Edits.{copied, laid, lifted, part, zeros};
 ghost use Rattle.store.specs.Rests.{Rest};
 ghost use Rattle.store.specs.Words.{Fit, most};
 
@@ -38,11 +38,11 @@ pub trait Store {
         ensures after { words self.new ≡ slice_set (words self.old) at word }
         ensures rest { rest self.new ≡ rest self.old };
 
-    /// Moves the n words from an address on down, the first first.
-    #[tactic(auto, using(crate::proofs::Moved::moved_next, crate::proofs::Moved::moved_none))]
-    fn move_words(&mut self, from: u64, to: u64, n: u64)
-        requires { (to ≤ from) × (from + n ≤ length (words self.old)) }
-        ensures after { words self.new ≡ moved n from to (words self.old) }
+    /// Copies the n words from an address on to those from a lower one on, the first first.
+    #[tactic(auto, using(crate::proofs::Moved::copied_next, crate::proofs::Moved::copied_none))]
+    fn copy_words(&mut self, from: u64, to: u64, n: u64)
+        requires { (to ≤ from) × (n ≤ length (words self.old) - from) }
+        ensures after { words self.new ≡ copied n from to (words self.old) }
         ensures rest { rest self.new ≡ rest self.old }
     {
         for i in 0..n {
@@ -51,11 +51,11 @@ pub trait Store {
         }
     }
 
-    /// Moves the n words from an address on up by so many addresses, the last first.
-    #[tactic(auto, using(crate::proofs::Moved::raised_next, crate::proofs::Moved::raised_none))]
-    fn raise_words(&mut self, from: u64, by: u64, n: u64)
-        requires { from + n + by ≤ length (words self.old) }
-        ensures after { words self.new ≡ raised n from by (words self.old) }
+    /// Copies the n words from an address on up by so many addresses, the last first.
+    #[tactic(auto, using(crate::proofs::Moved::lifted_next, crate::proofs::Moved::lifted_none))]
+    fn lift_words(&mut self, from: u64, by: u64, n: u64)
+        requires { n ≤ length (words self.old) - (from + by) }
+        ensures after { words self.new ≡ lifted n from by (words self.old) }
         ensures rest { rest self.new ≡ rest self.old }
     {
         for i in (0..n).rev() {

@@ -1,6 +1,7 @@
 use Rattle.std.proofs.Common.{◌<◌, refl, ap, ◌∙◌, arith, lit≤}
 use Rattle.codeword.specs.declared.head.Head.{Head}
 use Rattle.layout.specs.Words.{first_of}
+use Rattle.store.specs.Edits.{lifted}
 use Rattle.layout.proofs.Chains.{first_at}
 use Rattle.layout.proofs.Relink.{chained}
 use Rattle.layout.proofs.Scan.{tiles}
@@ -35,6 +36,8 @@ loop-at-preserved g c =
 pub returns-clause-raises : goal.returns-clause-raises
 returns-clause-raises g c =
     let w = c.word.ensures in
+    let p = c.args.rise.point in
+    let n = c.args.rise.by in
     let e = ap (λ (h : Head). h.next) c.unpack-end.ensures in
-    raises_so c.args.rise.point c.args.rise.by _ _ _ _ _ _ (omega (arith, e, w)) c.loop-at-test.false c.loop-at.invariant.3
-    c.move_up.ensures.words c.leave_gap.ensures.words
+    raises_so p n _ _ _ _ _ _ (omega (arith, e, w)) c.loop-at-test.false c.loop-at.invariant.3
+    (c.copy_up.ensures.after ∙ ap (λ k. lifted k p n (g.S.Store.words c.loop-at.store)) c.saturating_sub.ensures) c.leave_gap.ensures.words

@@ -2,10 +2,10 @@ use Rattle.std.proofs.Common.{rules, ◌≡◌, ℕ, ◌+◌, ◌-◌, ◌<◌, 
 use Rattle.std.specs.Prelude.{Ok}
 use Rattle.std.proofs.lemmas.Bool.{lt-ltb}
 use Rattle.std.proofs.lemmas.List.{length-set}
-use Rattle.store.proofs.Moved.{raised_next}
+use Rattle.store.proofs.Moved.{lifted_next}
 use Rattle.store.specs.Answers.{get_answer}
-use Rattle.store.specs.Edits.{raised}
-use Rattle.store.proofs.store.Store.raise_words.Goals as goal
+use Rattle.store.specs.Edits.{lifted}
+use Rattle.store.proofs.store.Store.lift_words.Goals as goal
 
 pub loop-i-preserved : goal.loop-i-preserved
 loop-i-preserved g c =
@@ -20,7 +20,7 @@ loop-i-preserved g c =
     let w : c.unwrap_or-word.result ≡ get_or us at 0 = search (rules, r) in (
       omega (arith, i.0),
       ap length c.set.ensures.after ∙ length-set _ _ _ ∙ i.1,
-      ap (raised k c.args.from c.args.by) c.set.ensures.after
-          ∙ raised_next c.args.from c.loop-i.i k k c.args.by _ _ refl back w ∙ i.2,
+      ap (lifted k c.args.from c.args.by) c.set.ensures.after
+          ∙ lifted_next c.args.from c.loop-i.i k k c.args.by _ _ refl back w ∙ i.2,
       c.set.ensures.rest ∙ i.3,
     )
