@@ -1,21 +1,18 @@
 -- The label of a new block, door by door.
-use Rattle.std.proofs.Common.{◌≡◌, ℕ, Bool, true, false, ◌||◌, ltb, ℤ, Ok, Err, sym, ap, ◌∙◌}
+use Rattle.std.proofs.Common.{◌≡◌, ℕ, Bool, true, false, ◌||◌, ℤ, Ok, Err, sym, ap, ◌∙◌}
 use Rattle.std.proofs.lemmas.Bool.{cond-false, cond-true, eq-eqb, ne_eqb, or_left}
 use Rattle.booking.specs.declared.refusal.Refusal.TheVariants.{BadField, BadLength}
-use Rattle.ledger.specs.Doors.{bad_base, bad_fields}
-use Rattle.layout.specs.Attached.{bad_type, label_taken}
+use Rattle.ledger.specs.Doors.{bad_base, bad_fields, bad_type}
+use Rattle.layout.specs.Attached.{label_taken}
 use Rattle.layout.specs.Words.{labelling}
-
-or_regroup : (x y z : Bool) → x ≡ false → ((x || y) || z) ≡ (y || z)
-or_regroup x y z e = ap (λ (q : Bool). (q || y) || z) e
 
 module _ (n : ℕ) (b : ℤ) (c : Bool) (t step : ℕ) where
   fields_are : bad_base b ≡ false → bad_fields b c t step ≡ bad_type c t step
-  fields_are e = or_regroup (bad_base b) (ltb 2 t) _ e
+  fields_are e = ap (λ (q : Bool). q || bad_type c t step) e
 
   pub wrong_base : bad_base b ≡ true → Err BadField ≡ label_taken n b c t step
   unfolding label_taken
-  wrong_base e = sym (cond-true _ _ _ (or_left _ _ (or_left _ _ e)))
+  wrong_base e = sym (cond-true _ _ _ (or_left _ _ e))
 
   module _ (e : bad_base b ≡ false) where
     pub wrong_type : bad_type c t step ≡ true → Err BadField ≡ label_taken n b c t step

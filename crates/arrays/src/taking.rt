@@ -1,6 +1,7 @@
 ghost use Rattle.std.specs.Prelude.{◌≡◌, ◌<◌, length};
 ghost use Rattle.booking.specs.Bookings.{Take, on};
-ghost use Rattle.layout.specs.Attached.{Attaches, bad_type, label_taken};
+ghost use Rattle.layout.specs.Attached.{Attaches, label_taken};
+ghost use Rattle.ledger.specs.Doors.{bad_type};
 ghost use Rattle.layout.specs.Booked.{Books};
 ghost use Rattle.layout.specs.Results.{done_of};
 

@@ -58,10 +58,5 @@ link_begins : (p : Piece) (gs : List Piece) → Begins p.start (link p gs)
 link_begins p [] = inl refl
 link_begins p (g ∷ gs) = let more = link_begins p gs in link_cases (Begins p.start) p g gs (λ l. inl refl) (λ l. inr more)
 
-begins_still : (a : ℕ) (p : Piece) (gs : List Piece) → Begins a gs → Begins a (link p gs)
-begins_still a p [] b = inr b
-begins_still a p (g ∷ gs) b =
-    link_cases (Begins a) p g gs (λ l. inr b) (λ l. elim b [ inl e ↦ inl e | inr c ↦ inr (begins_still a p gs c) ])
-
 pub linked_known : (p : Piece) (gs : List Piece) → InChain p.start (link p gs)
 linked_known p gs = inr (link_begins p gs)

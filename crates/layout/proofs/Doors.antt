@@ -10,8 +10,8 @@ use Rattle.booking.specs.declared.refusal.Refusal.{Refusal}
 use Rattle.layout.specs.Arrangement.{Arrangement, Codes, Data, Placed, Spot, Vacant, bared, tree, trees, vacant}
 use Rattle.layout.specs.Sound.{GoodBase}
 use Rattle.ledger.specs.Deeds.{done_at}
-use Rattle.ledger.specs.Doors.{Outcome, Past, bad_base, bad_fields, bad_run, door, element, off, passed, put, turned}
-use Rattle.ledger.specs.Ledger.{ask, room, settle, walk}
+use Rattle.ledger.specs.Doors.{Outcome, Past, bad_base, bad_fields, bad_run, bad_type, door, element, off, passed, put, turned}
+use Rattle.ledger.specs.Ledger.{ask, room, if_room, walk}
 use Rattle.ledger.specs.Trees.{Tree, Trees, W, bare, free}
 use Rattle.ledger.proofs.Asked.{Asks, away, asked}
 use Rattle.layout.proofs.Refine.{tree_vacant}
@@ -51,9 +51,9 @@ good_run m n l h = let k = no_or (eqb n 0) (ltb l (m + n)) h in (not_zero n k.0,
 
 good_fields : (b : ℤ) (c : Bool) (t j : ℕ) → T (not (bad_fields b c t j)) → GoodBase b × (t ≤ 2)
 good_fields b c t j h =
-    let k = no_or (bad_base b || ltb 2 t) (c && (not (eqb t 0) || eqb j 4)) h in
-    let l = no_or (bad_base b) (ltb 2 t) k.0 in
-    (good_base b l.0, nltb→le 2 t l.1)
+    let k = no_or (bad_base b) (bad_type c t j) h in
+    let l = no_or (ltb 2 t) (c && (not (eqb t 0) || eqb j 4)) k.1 in
+    (good_base b k.0, nltb→le 2 t l.0)
 
 module _ {A : Type 0} where
   door_past : (q : Bool) (r : Refusal) (o : Outcome A) → Past (door q r o) → T (not q) × Past o
@@ -163,7 +163,7 @@ ask_past A b h =
 
 -- ── Granted ────────────────────────────────────────────────────────────
 
-settled_yes : (p : Bool) (a c : Answer) (x ts : Trees) → (settle p a x ts).0 ≡ granted c → T p
+settled_yes : (p : Bool) (a c : Answer) (x ts : Trees) → (if_room p a x ts).0 ≡ granted c → T p
 settled_yes true a c x ts e = tt
 settled_yes false a c x ts e = let z : ◌≡◌ {A = ℕ} 0 1 = cc in absurd (omega arith)
 

@@ -14,6 +14,7 @@ use Rattle.layout.specs.Sound.{Ascends, Each, Good, GoodBase, Sound, covered, co
 use Rattle.layout.specs.Words.{total}
 use Rattle.ledger.specs.Doors.{element}
 use Rattle.ledger.specs.Lists.{delete_at, overwrite, swap}
+use Rattle.ledger.proofs.ReadBack.{over_length}
 use Rattle.layout.proofs.Cover.{covers_none, covers_split, covered-++, each_imp, each-++}
 use Rattle.layout.proofs.Order.{Some, ordered, tiled, pieces_some, concat_some}
 use Rattle.layout.proofs.Close.{closed_up_ordered}
@@ -110,22 +111,12 @@ write_sound kind i w t A o a =
     λ d s b ty ws p. length-set ws (element b i) w in
     same_size (data_change (λ b ws. set ws (element b i) w)) P t A o a (data_good _ P keeps) (data_same _ P keeps)
 
-overwrite_length : (m : ℕ) (vs ws : List ℕ) → m + length vs ≤ length ws → length (overwrite m vs ws) ≡ length ws
-overwrite_length m vs ws h =
-    omega (
-      arith,
-      length-append (take m ws) (vs ++ drop (m + length vs) ws),
-      length-append vs (drop (m + length vs) ws),
-      length-take m ws,
-      length-drop (m + length vs) ws,
-    )
-
 pub row_write_sound : (kind : ℕ) (i : ℤ) (vs : List ℕ) (t : Trace) (A : Arrangement) → Sound A → AtTrace (Legal (RowWrite kind i vs)) t A
     → Sound (rearranged t (RowWrite kind i vs) A)
 row_write_sound kind i vs t A o a =
     let P = Legal (RowWrite kind i vs) in
     let keeps : (d s : ℕ) (b : ℤ) (ty : ℕ) (ws : List ℕ) → P d (Data s b ty ws) → length (overwrite (element b i) vs ws) ≡ length ws =
-    λ d s b ty ws p. overwrite_length (element b i) vs ws p in
+    λ d s b ty ws p. over_length (element b i) vs ws p in
     same_size (data_change (λ b ws. overwrite (element b i) vs ws)) P t A o a (data_good _ P keeps) (data_same _ P keeps)
 
 rebased_good : (c : ℤ) (d : ℕ) (q : Spot (Placed d)) → GoodBase c → Good (suc d) q → Good (suc d) (rebased c d q)

@@ -6,7 +6,7 @@ use Rattle.booking.specs.declared.refusal.Refusal.{Refusal}
 use Rattle.booking.specs.declared.refusal.Refusal.TheVariants.{WrongCount}
 use Rattle.booking.specs.declared.trace.Trace.{Trace}
 use Rattle.layout.specs.Arrangement.{Arrangement, trees}
-use Rattle.layout.specs.Gaps.{Fit, combined, first_fit_of, gap_at, no_gap}
+use Rattle.layout.specs.Gaps.{GapFound, combined, first_fit_of, gap_at, no_gap}
 use Rattle.layout.specs.Held.{held_trees}
 use Rattle.layout.specs.Holds.{Displays, Holds}
 use Rattle.layout.specs.Keeping.{arrangement_of, called, made, tidied}
@@ -65,7 +65,7 @@ stored_sound A o b = pick (book A.count (trees A) b).0 (granted_sound A o b)
     pick (granted c) h = h c refl
     pick (refused x) h = o
 
-found_count : (n : ℕ) (B : Arrangement) (fit : Fit) (other : Found) → B.count ≡ n → other.arrangement.count ≡ n → (found_or B fit other).arrangement.count ≡ n
+found_count : (n : ℕ) (B : Arrangement) (fit : GapFound) (other : Found) → B.count ≡ n → other.arrangement.count ≡ n → (found_or B fit other).arrangement.count ≡ n
 found_count n B no_gap other e f = f
 found_count n B (gap_at x gs) other e f = e
 

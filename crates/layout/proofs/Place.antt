@@ -12,7 +12,7 @@ use Rattle.booking.specs.declared.trace.Trace.{Trace}
 use Rattle.codeword.specs.Codeword.{packed, unpacked}
 use Rattle.ledger.specs.Deeds.{done_at}
 use Rattle.ledger.specs.Doors.{Outcome, door, element, off, passed, put, turned}
-use Rattle.ledger.specs.Ledger.{ask, book, room, settle, walk}
+use Rattle.ledger.specs.Ledger.{ask, book, room, if_room, walk}
 use Rattle.ledger.specs.Trees.{Tree, Trees, W, bare, free}
 use Rattle.layout.specs.Arrangement.{Arrangement, Codes, Data, Piece, Placed, Spot, Vacant, bared, tree, trees, vacant}
 use Rattle.layout.specs.Held.{held_trees}
@@ -248,7 +248,7 @@ room_reply : (count : ℕ) (ts : Trees) (o : Outcome Trees) → (room count ts o
 room_reply count ts (turned r) = refl
 room_reply count ts (passed n m a x) = pick (leb n (free count ts + m))
   where
-    pick : (q : Bool) → (settle q a x ts).0 ≡ cond q (granted a) (refused NoRoom)
+    pick : (q : Bool) → (if_room q a x ts).0 ≡ cond q (granted a) (refused NoRoom)
     pick true = refl
     pick false = refl
 

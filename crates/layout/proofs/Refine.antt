@@ -8,14 +8,14 @@ use Rattle.booking.specs.Traces.{subscripts}
 use Rattle.booking.specs.declared.refusal.Refusal.{Refusal}
 use Rattle.booking.specs.declared.trace.Trace.{Trace}
 use Rattle.layout.specs.Arrangement.{Arrangement, Codes, Data, Piece, Placed, Spot, Vacant, bared, concat, pieces, tree, trees, vacant}
-use Rattle.layout.specs.Gaps.{Fit, combined, first_fit_of, gap_at, no_gap}
+use Rattle.layout.specs.Gaps.{GapFound, combined, first_fit_of, gap_at, no_gap}
 use Rattle.layout.specs.Placement.{Found, closed_up, find, found_or, move}
 use Rattle.layout.specs.Places.{at_trace, change, seen}
 use Rattle.layout.specs.Rearranged.{data_change, exchanged, freed, grown, if_granted, new_spot, raised, rearranged, rebased, shrunk, start_of, stored}
 use Rattle.layout.specs.Words.{total}
 use Rattle.ledger.specs.Deeds.{done_at, taken}
 use Rattle.ledger.specs.Doors.{Outcome, door, element, passed, put, turned}
-use Rattle.ledger.specs.Ledger.{ask, book, room, settle, walk}
+use Rattle.ledger.specs.Ledger.{ask, book, room, if_room, walk}
 use Rattle.ledger.specs.Lists.{delete_at, insert_at, overwrite, swap}
 use Rattle.ledger.specs.Trees.{Node, Nothing, Row, Table, Tree, Trees, W, bare, free, sum, tree_of}
 use Rattle.layout.proofs.Order.{Tile, idle, used, size, idles, useds, Ordered}
@@ -282,7 +282,7 @@ moved_trees to ps = map-map (tree 4) (move to 4) ps ∙ map_cong _ _ (tree_move 
 pub tidy_leaves_trees : (A : Arrangement) → trees (closed_up A) ≡ trees A
 tidy_leaves_trees A = moved_trees _ A.names
 
-found_trees : (A B : Arrangement) (fit : Fit) (other : Found) → trees B ≡ trees A → trees other.arrangement ≡ trees A
+found_trees : (A B : Arrangement) (fit : GapFound) (other : Found) → trees B ≡ trees A → trees other.arrangement ≡ trees A
     → trees (found_or B fit other).arrangement ≡ trees A
 found_trees A B no_gap other e f = f
 found_trees A B (gap_at x gs) other e f = e
@@ -358,7 +358,7 @@ rearranged_trees t (Exchange h i) A = trees_at (exchanged h i) (effect (Exchange
 -- ── The arrangement's trees follow the ledger ──────────────────────────
 
 settled : (p : Bool) (a : Answer) (B A : Arrangement) (ts : Trees) → ts ≡ trees B
-    → trees (if_granted (settle p a ts (trees A)).0 B A) ≡ (settle p a ts (trees A)).1
+    → trees (if_granted (if_room p a ts (trees A)).0 B A) ≡ (if_room p a ts (trees A)).1
 settled true a B A ts e = sym e
 settled false a B A ts e = refl
 

@@ -2,7 +2,7 @@
 use Rattle.std.proofs.Common.{◌≡◌, ℕ, zero, suc, ◌+◌, ◌-◌, ◌≤◌, cond, ltb, List, [], ◌∷◌, map, refl, ap, ◌∙◌, subst, inl, inr, arith}
 use Rattle.std.proofs.lemmas.Bool.{cases_eq, cond-false, cond-true, eq-eqb, le-ltb, ne_eqb}
 use Rattle.layout.specs.Arrangement.{Arrangement, Codes, Data, Piece, Placed, Vacant, blocks, concat, pieces}
-use Rattle.layout.specs.Gaps.{Fit, a_gap, combined, first_fit_of, gap_at, join, link}
+use Rattle.layout.specs.Gaps.{GapFound, a_gap, combined, first_fit_of, gap_at, join, link}
 use Rattle.layout.specs.Holds.{Displays}
 use Rattle.layout.specs.Keeping.{tidied}
 use Rattle.layout.specs.Placement.{closed_up, gap_below, move, with_gaps}
@@ -39,7 +39,7 @@ module _ (A : Arrangement) (o : Sound A) where
       regapped (combined A.gaps) m.cover m.sized m.climbs
 
   -- the n words that the first fit takes out of the chain, linked back in
-  carved : (n x : ℕ) (left : List Piece) {fit : Fit} → Tried n A.gaps fit → fit ≡ gap_at x left → 1 ≤ n
+  carved : (n x : ℕ) (left : List Piece) {fit : GapFound} → Tried n A.gaps fit → fit ≡ gap_at x left → 1 ≤ n
       → Sound (with_gaps A (link (record { start = x; size = n }) left))
   carved n x left (failed small) e some = let z : ◌≡◌ {A = ℕ} 0 1 = cc in absurd (omega arith)
   carved n x left (fitted {x = x'} {left = left'} cover sized climbs from) e some =

@@ -7,7 +7,7 @@ use Rattle.booking.specs.Bookings.{Take}
 use Rattle.booking.specs.Traces.{subscripts}
 use Rattle.booking.specs.declared.trace.Trace.{Trace}
 use Rattle.layout.specs.Arrangement.{Arrangement, Codes, Data, Piece, Placed, Spot, Vacant, blocks, pieces, tree, trees, vacant}
-use Rattle.layout.specs.Gaps.{Fit, a_gap, combined, first_fit_of, gap_at, join, keep, no_gap}
+use Rattle.layout.specs.Gaps.{GapFound, a_gap, combined, first_fit_of, gap_at, join, keep, no_gap}
 use Rattle.layout.specs.Placement.{Found, closed_up, find, found_or, move, moved}
 use Rattle.layout.specs.Places.{change, look, seen}
 use Rattle.layout.specs.Rearranged.{freed, new_spot, rearranged}
@@ -46,7 +46,7 @@ clear g (h ∷ hs) e c o = (
 )
 
 -- no gap is large enough; or the gaps are the n words from x and those that are left
-pub data Tried (n : ℕ) (gs : List Piece) : Fit → Type 0 where
+pub data Tried (n : ℕ) (gs : List Piece) : GapFound → Type 0 where
   failed : Each (λ g. g.size < n) gs → Tried n gs no_gap
   fitted : {x : ℕ} {left : List Piece} → ((y : ℕ) → covers y (record { start = x; size = n }) + covered y left ≡ covered y gs)
       → Each Some left → Climbs left → ((a : ℕ) → From a gs → From a left) → Tried n gs (gap_at x left)
@@ -59,7 +59,7 @@ before : (s k : ℕ) (gs : List Piece) → From s gs → Climbs gs → Climbs (a
 before s zero gs f c = c
 before s (suc k) gs f c = (f, c)
 
-kept_fit : (n : ℕ) (g : Piece) (gs : List Piece) {fit : Fit} → g.size < n → Some g → From g.start gs → Tried n gs fit
+kept_fit : (n : ℕ) (g : Piece) (gs : List Piece) {fit : GapFound} → g.size < n → Some g → From g.start gs → Tried n gs fit
     → Tried n (g ∷ gs) (keep g fit)
 kept_fit n g gs l s c (failed e) = failed (l, e)
 kept_fit n g gs l s c (fitted cov e k from) =
@@ -145,7 +145,7 @@ record Room (n : ℕ) (t : Trace) (F : Found) : Type 0 where
 
 module _ (n : ℕ) (t : Trace) (B : Arrangement) (fine : Decent B) (empty : AtTrace Empty t B) (gs : List Piece)
     (tiles : (y : ℕ) → covered y (blocks B.names) + covered y gs ≡ covers y (record { start = 65; size = B.count - 65 })) where
-  found_room : {fit : Fit} → Tried n gs fit → (other : Found) → (Each (λ g. g.size < n) gs → Room n t other) → Room n t (found_or B fit other)
+  found_room : {fit : GapFound} → Tried n gs fit → (other : Found) → (Each (λ g. g.size < n) gs → Room n t other) → Room n t (found_or B fit other)
   found_room (failed e) other k = k e
   found_room (fitted cover e c from) other k = record {
     fine = record { names_64 = fine.names_64; least = fine.least; most = fine.most; good = fine.good };

@@ -16,7 +16,7 @@ use Rattle.layout.specs.Booked.{Booked}
 use Rattle.layout.specs.Chains.{size_at}
 use Rattle.layout.specs.Held.{held_trees}
 use Rattle.layout.specs.Holds.{Displays, Holds}
-use Rattle.layout.specs.Gaps.{Fit, combined, first_fit_of, gap_at, link, link_all, no_gap}
+use Rattle.layout.specs.Gaps.{GapFound, combined, first_fit_of, gap_at, link, link_all, no_gap}
 use Rattle.layout.specs.Placement.{closed_up, find, found_or, with_gaps}
 use Rattle.layout.specs.Places.{at_trace}
 use Rattle.layout.specs.Rearranged.{freed, new_spot}
@@ -88,7 +88,7 @@ module _ (n : ℕ) (b : ℤ) (c : Bool) (ty step : ℕ) where
 
 -- the type of a block that can be taken; a table has type 0
 type_small : (b : ℤ) (c : Bool) (ty step : ℕ) → bad_fields b c ty step ≡ false → ty ≤ 2
-type_small b c ty step f = ltb-false 2 ty (or_parts _ _ (or_parts _ _ f).0).1
+type_small b c ty step f = ltb-false 2 ty (or_parts _ _ (or_parts _ _ f).1).0
 
 table_type : (b : ℤ) (c : Bool) (ty step : ℕ) → bad_fields b c ty step ≡ false → c ≡ true → ty ≡ 0
 table_type b false ty step f z = absurd (both_ways false refl z)
@@ -96,7 +96,7 @@ table_type b true ty step f z =
     elim (cases_eq ty 0) [ inl e ↦ e | inr e ↦ absurd (both_ways (bad_fields b true ty step) f (bad (not_from_false _ (ne_eqb ty 0 e)))) ]
   where
     bad : not (eqb ty 0) ≡ true → bad_fields b true ty step ≡ true
-    bad k = or_right _ _ (or_left _ _ k)
+    bad k = or_right _ _ (or_right _ _ (or_left _ _ k))
 
 -- ── The doors ──────────────────────────────────────────────────────────
 
@@ -182,7 +182,7 @@ module _ (ws : List ℕ) (h : Holds ws) (t : Trace) (at : ℕ) (e : Ok at ≡ wa
     found_count : (k : ℕ) (B : Arrangement) → (find k B).arrangement.count ≡ B.count
     found_count k B = pick (first_fit_of k B.gaps) (first_fit_of k (combined B.gaps)) (first_fit_of k (closed_up B).gaps)
       where
-        pick : (x y z : Fit) → (found_or B x (found_or B y (found_or (closed_up B) z (record { at = 0; arrangement = B })))).arrangement.count ≡ B.count
+        pick : (x y z : GapFound) → (found_or B x (found_or B y (found_or (closed_up B) z (record { at = 0; arrangement = B })))).arrangement.count ≡ B.count
         pick (gap_at s gs) y z = refl
         pick no_gap (gap_at s gs) z = refl
         pick no_gap no_gap (gap_at s gs) = refl

@@ -7,10 +7,6 @@ use Rattle.codeword.specs.declared.Codeword.{Codeword}
 use Rattle.ledger.specs.Doors.{bad_fields}
 use Rattle.layout.specs.Words.{labelling}
 
--- a type that no block at a step can have, one of data or one of codewords
-abbrev pub bad_type : Bool → ℕ → ℕ → Bool
-bad_type codes t step = nat_lt 2 t || (codes && (not (t == 0) || step == 4))
-
 -- the label of a block of n elements to be taken at a step, which has no address yet; refused where no block can be so
 unfoldable pub label_taken : ℕ → ℤ → Bool → ℕ → ℕ → Result Codeword Refusal
 label_taken n b codes t step =

@@ -3,6 +3,7 @@
 use Rattle.std.specs.Prelude.{◌≡◌, ℕ, ◌+◌, ◌*◌, ◌^◌, ◌≤◌, true, false, List, [], ◌∷◌, map, replicate, ℤ, pos, negsuc, slice_index, refl}
 use Rattle.std.proofs.Common.{lit≤}
 use Rattle.codeword.specs.Codeword.{packed, unpacked}
+use Rattle.codeword.specs.Heads.{head_word}
 use Rattle.booking.specs.Bookings.{Booking, Delete, Done, Free, Insert, Take, granted, on, refused}
 use Rattle.booking.specs.declared.refusal.Refusal.TheVariants.{NoRoom, WrongCount}
 use Rattle.booking.specs.declared.trace.Trace.{Trace}
@@ -62,10 +63,6 @@ word_at A a = slice_index (words_of A) a
 abbrev first_at : Arrangement → ℕ → ℕ
 first_at A a = (unpacked (word_at A a)).first
 
--- the header, or the first word of a gap: a size and the next address
-abbrev chain_word : ℕ → ℕ → ℕ
-chain_word size next = size + 2 ^ 18 * next
-
 pub record Figures : Type 0 where
   pub pack_row : packed (labelling 66 3 (pos 1) false 1) ≡ 0x01000010000C0042
   pub pack_table : packed (labelling 66 2 (negsuc 0) true 0) ≡ 0x004FFFF000080042
@@ -73,10 +70,10 @@ pub record Figures : Type 0 where
   pub made_66 : made (replicate 66 5) ≡ (refused WrongCount, replicate 66 5)
   -- state A: F is 66 and 70, and the one gap at 72 has 3 words
   pub a_names : map (first_at state_A) (1 ∷ 2 ∷ []) ≡ 66 ∷ 70 ∷ []
-  pub a_chain : map (word_at state_A) (0 ∷ 72 ∷ []) ≡ chain_word 3 72 ∷ chain_word 3 0 ∷ []
+  pub a_chain : map (word_at state_A) (0 ∷ 72 ∷ []) ≡ head_word 3 72 ∷ head_word 3 0 ∷ []
   -- free 1, then take 3 of 5, of 6, of 7
   pub five : map (first_at (after state_A (on one Free ∷ take_row three 5 ∷ []))) (2 ∷ 3 ∷ []) ≡ 66 ∷ 69 ∷ []
-  pub five_chain : map (word_at (after state_A (on one Free ∷ take_row three 5 ∷ []))) (0 ∷ 74 ∷ []) ≡ chain_word 1 74 ∷ chain_word 1 0 ∷ []
+  pub five_chain : map (word_at (after state_A (on one Free ∷ take_row three 5 ∷ []))) (0 ∷ 74 ∷ []) ≡ head_word 1 74 ∷ head_word 1 0 ∷ []
   pub six : word_at (after state_A (on one Free ∷ take_row three 6 ∷ [])) 0 ≡ 0
   pub seven : (stored (after state_A (on one Free ∷ [])) (take_row three 7)).0 ≡ refused NoRoom
   -- take 1 again, of 6 and of 7
@@ -84,13 +81,13 @@ pub record Figures : Type 0 where
   pub again_seven : stored state_A (take_row one 7) ≡ (refused NoRoom, state_A)
   -- free 1, free 2, take 3 of 4: the gaps combine
   pub combine : first_at (after state_A (on one Free ∷ on two Free ∷ take_row three 4 ∷ [])) 3 ≡ 66
-  pub combine_chain : map (word_at (after state_A (on one Free ∷ on two Free ∷ take_row three 4 ∷ []))) (0 ∷ 70 ∷ []) ≡ chain_word 5 70 ∷ chain_word 5 0 ∷ []
+  pub combine_chain : map (word_at (after state_A (on one Free ∷ on two Free ∷ take_row three 4 ∷ []))) (0 ∷ 70 ∷ []) ≡ head_word 5 70 ∷ head_word 5 0 ∷ []
   -- insert 2 words at subscript 2 of name 1; delete 1 at subscript 1
   pub insert : map (first_at (after state_A (on one (Insert (pos 2) 2) ∷ []))) (1 ∷ 2 ∷ []) ≡ 66 ∷ 72 ∷ []
   pub insert_length : (unpacked (word_at (after state_A (on one (Insert (pos 2) 2) ∷ [])) 1)).length ≡ 5
-  pub insert_chain : map (word_at (after state_A (on one (Insert (pos 2) 2) ∷ []))) (0 ∷ 74 ∷ []) ≡ chain_word 1 74 ∷ chain_word 1 0 ∷ []
-  pub delete : map (word_at (after state_A (on one (Delete (pos 1) 1) ∷ []))) (0 ∷ 68 ∷ 72 ∷ []) ≡ chain_word 4 68 ∷ chain_word 1 72 ∷ chain_word 3 0 ∷ []
+  pub insert_chain : map (word_at (after state_A (on one (Insert (pos 2) 2) ∷ []))) (0 ∷ 74 ∷ []) ≡ head_word 1 74 ∷ head_word 1 0 ∷ []
+  pub delete : map (word_at (after state_A (on one (Delete (pos 1) 1) ∷ []))) (0 ∷ 68 ∷ 72 ∷ []) ≡ head_word 4 68 ∷ head_word 1 72 ∷ head_word 3 0 ∷ []
   -- the table under name 1: its own F, that of the older row and of the newer, their back-references, and the chain
   pub nested_firsts : map (first_at nested) (1 ∷ 67 ∷ 66 ∷ []) ≡ 66 ∷ 69 ∷ 71 ∷ []
   pub nested_backs : map (word_at nested) (65 ∷ 68 ∷ 70 ∷ []) ≡ 1 ∷ 67 ∷ 66 ∷ []
-  pub nested_chain : map (word_at nested) (0 ∷ 74 ∷ []) ≡ chain_word 1 74 ∷ chain_word 1 0 ∷ []
+  pub nested_chain : map (word_at nested) (0 ∷ 74 ∷ []) ≡ head_word 1 74 ∷ head_word 1 0 ∷ []

@@ -8,17 +8,17 @@ a_gap start zero = []
 a_gap start (suc n) = record { start = start; size = suc n } ∷ []
 
 -- what the search for a gap finds: none, or where it begins and the chain that is left
-pub data Fit : Type 0 where
-  no_gap : Fit
-  gap_at : (start : ℕ) (left : List Piece) → Fit
+pub data GapFound : Type 0 where
+  no_gap : GapFound
+  gap_at : (start : ℕ) (left : List Piece) → GapFound
 
 -- a gap that was passed over stays before the others
-abbrev pub keep : Piece → Fit → Fit
+abbrev pub keep : Piece → GapFound → GapFound
 keep g no_gap = no_gap
 keep g (gap_at x gs) = gap_at x (g ∷ gs)
 
 -- where the first gap of n words or more begins, and the chain once its front is gone
-abbrev pub first_fit_of : ℕ → List Piece → Fit
+abbrev pub first_fit_of : ℕ → List Piece → GapFound
 first_fit_of n [] = no_gap
 first_fit_of n (g ∷ gs) =
     cond (nat_le n g.size) (gap_at g.start (a_gap (g.start + n) (g.size - n) ++ gs)) (keep g (first_fit_of n gs))

@@ -1,7 +1,7 @@
 -- Closing up, and finding room for a new block.
 use Rattle.std.specs.Prelude.{ℕ, zero, suc, ◌+◌, ◌-◌, cond, List, [], ◌∷◌, map, nat_lt}
 use Rattle.layout.specs.Arrangement.{Arrangement, Codes, Data, Piece, Placed, Spot, Vacant}
-use Rattle.layout.specs.Gaps.{Fit, a_gap, combined, first_fit_of, gap_at, no_gap}
+use Rattle.layout.specs.Gaps.{GapFound, a_gap, combined, first_fit_of, gap_at, no_gap}
 use Rattle.layout.specs.Words.{total}
 
 -- every block of a placed tree at another address
@@ -37,7 +37,7 @@ pub record Found : Type 0 where
   pub arrangement : Arrangement
 
 -- what was found, or what else was
-abbrev pub found_or : Arrangement → Fit → Found → Found
+abbrev pub found_or : Arrangement → GapFound → Found → Found
 found_or A no_gap other = other
 found_or A (gap_at x gs) other = record { at = x; arrangement = with_gaps A gs }
 

@@ -9,7 +9,7 @@ use Rattle.booking.specs.declared.trace.Trace.{Trace}
 use Rattle.ledger.specs.Deeds.{done_at}
 use Rattle.ledger.specs.Doors.{Outcome, bad_run, door, element, off, passed, put, turned}
 use Rattle.ledger.specs.Laws.{RowWrittenIsRead, WrittenIsRead}
-use Rattle.ledger.specs.Ledger.{ask, book, room, settle, walk}
+use Rattle.ledger.specs.Ledger.{ask, book, room, if_room, walk}
 use Rattle.ledger.specs.Lists.{overwrite}
 use Rattle.ledger.specs.Trees.{Node, Nothing, Row, Table, Tree, Trees, W, bare, free, tree_of}
 use Rattle.ledger.proofs.Signs.{element_lt}
@@ -56,15 +56,15 @@ module _ (x : Answer) (a b : Deed) (leaf : (d j : ℕ) (y : Node (Tree d)) → A
       ∙ ap (put (set (set ts e u) e)) k
       ∙ ap (passed 0 0 x) (set-set ts e u u)
 
-  granted_0 : (count : ℕ) (us : Trees) → (settle (leb 0 (free count us + 0)) x us us).0 ≡ granted x
-  granted_0 count us = ap (λ (q : Bool). (settle q x us us).0) (le-leb 0 (free count us + 0) (omega arith))
+  granted_0 : (count : ℕ) (us : Trees) → (if_room (leb 0 (free count us + 0)) x us us).0 ≡ granted x
+  granted_0 count us = ap (λ (q : Bool). (if_room q x us us).0) (le-leb 0 (free count us + 0) (omega arith))
 
   read_back : (count : ℕ) (ts : Trees) (t : Trace) (o : Outcome Trees) → After x o (λ us. ask us (on t b)) → (room count ts o).0 ≡ granted Done
       → (room count (room count ts o).1 (ask (room count ts o).1 (on t b))).0 ≡ granted x
   read_back count ts t (turned r) k e = let z : ◌≡◌ {A = ℕ} 0 1 = cc in absurd (omega arith)
   read_back count ts t (passed n m y us) k e = pick (leb n (free count ts + m)) e
     where
-      pick : (q : Bool) → (settle q y us ts).0 ≡ granted Done → (room count (settle q y us ts).1 (ask (settle q y us ts).1 (on t b))).0 ≡ granted x
+      pick : (q : Bool) → (if_room q y us ts).0 ≡ granted Done → (room count (if_room q y us ts).1 (ask (if_room q y us ts).1 (on t b))).0 ≡ granted x
       pick true e = ap (λ (o : Outcome Trees). (room count us o).0) k ∙ granted_0 count us
       pick false e = let z : ◌≡◌ {A = ℕ} 0 1 = cc in absurd (omega arith)
 
@@ -98,7 +98,7 @@ written_is_read count ts n t kind i w e = booked_back (Word w) (Write kind i w) 
 
 -- ── A row ──────────────────────────────────────────────────────────────
 
-over_length : (m : ℕ) (vs xs : List ℕ) → m + length vs ≤ length xs → length (overwrite m vs xs) ≡ length xs
+pub over_length : (m : ℕ) (vs xs : List ℕ) → m + length vs ≤ length xs → length (overwrite m vs xs) ≡ length xs
 over_length m vs xs h = simp (length-append, length-take, length-drop) (omega arith)
 
 over_read : (m : ℕ) (vs xs : List ℕ) → m ≤ length xs → take (length vs) (drop m (overwrite m vs xs)) ≡ vs

@@ -6,7 +6,7 @@ use Rattle.booking.specs.Bookings.{Answer, Booking, Reply, granted, refused}
 use Rattle.booking.specs.declared.refusal.Refusal.{Refusal}
 use Rattle.booking.specs.declared.refusal.Refusal.TheVariants.{NoRoom}
 use Rattle.ledger.specs.Doors.{Outcome, Past, passed, turned}
-use Rattle.ledger.specs.Ledger.{ask, book, room, settle}
+use Rattle.ledger.specs.Ledger.{ask, book, room, if_room}
 use Rattle.ledger.specs.Needs.{needs, releases}
 use Rattle.ledger.specs.Runs.{granted_of, grants, replies, trees_after}
 use Rattle.ledger.specs.Trees.{Trees, free}
@@ -25,7 +25,7 @@ GrantsAlike ts x y =
     ((a : Answer) × (x.0 ≡ granted a) × (y.0 ≡ granted a) × (y.1 ≡ x.1))
     ⊎ ((r : Refusal) × (x.0 ≡ refused r) × (x.1 ≡ ts))
 
-settle_alike : (p q : Bool) (a : Answer) (ts' ts : Trees) → (T p → T q) → GrantsAlike ts (settle p a ts' ts) (settle q a ts' ts)
+settle_alike : (p q : Bool) (a : Answer) (ts' ts : Trees) → (T p → T q) → GrantsAlike ts (if_room p a ts' ts) (if_room q a ts' ts)
 unfolding GrantsAlike
 settle_alike true true a ts' ts h = inl (a, refl, refl, refl)
 settle_alike true false a ts' ts h = absurd (h tt)
@@ -74,7 +74,7 @@ module _ (m n : ℕ) (h : m ≤ n) where
   fed ts (b ∷ bs) = fed_more ts b bs (room_alike m n ts (ask ts b) h) (fed (book m ts b).1 bs)
 
 -- the last door
-settle_room : (p : Bool) (a : Answer) (ts' ts : Trees) → ((settle p a ts' ts).0 ≡ refused NoRoom) ↔ T (not p)
+settle_room : (p : Bool) (a : Answer) (ts' ts : Trees) → ((if_room p a ts' ts).0 ≡ refused NoRoom) ↔ T (not p)
 settle_room true a ts' ts = (λ e. let z : ◌≡◌ {A = ℕ} 0 1 = cc in omega arith, λ t. absurd t)
 settle_room false a ts' ts = (λ e. tt, λ t. refl)
 

@@ -35,9 +35,13 @@ off b n i = not (int_le b i && int_lt i (b +ℤ pos n))
 abbrev pub bad_base : ℤ → Bool
 bad_base b = not (int_le (negsuc 32_767) b && int_le b (pos 32_767))
 
+-- a type that no block at a step can have, one of codewords or one of data
+abbrev pub bad_type : Bool → ℕ → ℕ → Bool
+bad_type codes t step = nat_lt 2 t || (codes && (not (t == 0) || step == 4))
+
 -- fields that no block taken at a step can have
 abbrev pub bad_fields : ℤ → Bool → ℕ → ℕ → Bool
-bad_fields b codes t step = (bad_base b || nat_lt 2 t) || (codes && (not (t == 0) || step == 4))
+bad_fields b codes t step = bad_base b || bad_type codes t step
 
 -- a run of n from element m, in a list of l
 abbrev pub bad_run : ℕ → ℕ → ℕ → Bool

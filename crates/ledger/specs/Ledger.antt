@@ -27,14 +27,14 @@ ask ts b =
     put (set ts (b.trace.name - 1)) (walk 4 1 (subscripts b.trace) b.deed (tree_of ts b.trace.name))
 
 -- granted if there is room, else refused and nothing changes
-abbrev pub settle : Bool → Answer → (after before : Trees) → Reply × Trees
-settle true a after before = (granted a, after)
-settle false a after before = (refused NoRoom, before)
+abbrev pub if_room : Bool → Answer → (after before : Trees) → Reply × Trees
+if_room true a after before = (granted a, after)
+if_room false a after before = (refused NoRoom, before)
 
 -- the last door
 abbrev pub room : ℕ → Trees → Outcome Trees → Reply × Trees
 room count ts (turned r) = (refused r, ts)
-room count ts (passed needs releases a ts') = settle (nat_le needs (free count ts + releases)) a ts' ts
+room count ts (passed needs releases a ts') = if_room (nat_le needs (free count ts + releases)) a ts' ts
 
 -- one booking
 abbrev pub book : ℕ → Trees → Booking → Reply × Trees

@@ -3,7 +3,7 @@ use Rattle.std.proofs.Common.{◌≡◌, ℕ, ◌-◌, ◌<◌, ◌≤◌, true,
 use Rattle.std.proofs.lemmas.Bool.{cases_lt}
 use Rattle.layout.specs.Arrangement.{Arrangement, Piece}
 use Rattle.layout.specs.Chains.{Chained, Relinked}
-use Rattle.layout.specs.Gaps.{Fit, a_gap, combined, first_fit_of, gap_at, no_gap}
+use Rattle.layout.specs.Gaps.{GapFound, a_gap, combined, first_fit_of, gap_at, no_gap}
 use Rattle.layout.specs.Holds.{Displays, Holds}
 use Rattle.layout.specs.Keeping.{tidied}
 use Rattle.layout.specs.Placement.{Found, closed_up, find, found_or, with_gaps}
@@ -44,7 +44,7 @@ each_small n (g ∷ gs) h = (omega arith, each_small n gs (omega arith))
 
 module _ (n : ℕ) (A : Arrangement) (o : Sound A) (ws us : List ℕ) (s : Displays ws A) (at : ℕ) (S : Searches n ws at us) where
   -- one search that answers
-  got_fit : 1 ≤ n → (F : Fit) → first_fit_of n A.gaps ≡ F → PlacedIn n ws A.gaps at us F → 0 < at → (other : Found) → Roomed n (found_or A F other) at us
+  got_fit : 1 ≤ n → (F : GapFound) → first_fit_of n A.gaps ≡ F → PlacedIn n ws A.gaps at us F → 0 < at → (other : Found) → Roomed n (found_or A F other) at us
   got_fit some no_gap is p h other = absurd (omega (arith, p.0))
   got_fit some (gap_at x left) is p h other = record {
     at_is = p.0;
@@ -57,7 +57,7 @@ module _ (n : ℕ) (A : Arrangement) (o : Sound A) (ws us : List ℕ) (s : Displ
   got some h other = got_fit some (first_fit_of n A.gaps) refl (S.leaves A.gaps (chained A o ws s) some) h other
 
   -- one that does not: nothing fits, and nothing has changed
-  not_fit : (F : Fit) → PlacedIn n ws A.gaps at us F → at ≤ 0 → (us ≡ ws) × ((other : Found) → found_or A F other ≡ other)
+  not_fit : (F : GapFound) → PlacedIn n ws A.gaps at us F → at ≤ 0 → (us ≡ ws) × ((other : Found) → found_or A F other ≡ other)
   not_fit no_gap p h = (p.1, λ other. refl)
   not_fit (gap_at x left) p h = absurd (omega (arith, p.2))
 

@@ -5,7 +5,7 @@ use Rattle.std.proofs.lemmas.Bool.{cases_lt, cond-true, cond-false, lt-ltb, le-l
 use Rattle.layout.specs.Arrangement.{Piece}
 use Rattle.layout.specs.Chains.{Chained, Relinked, Rising, last_of, next_at, size_at}
 use Rattle.codeword.specs.Heads.{head_word}
-use Rattle.layout.specs.Gaps.{Fit, a_gap, first_fit_of, gap_at, keep, no_gap}
+use Rattle.layout.specs.Gaps.{GapFound, a_gap, first_fit_of, gap_at, keep, no_gap}
 use Rattle.layout.specs.Holds.{Chain}
 use Rattle.layout.specs.Sound.{Each}
 use Rattle.layout.specs.Words.{first_of, total}
@@ -203,7 +203,7 @@ module _ (ws : List ℕ) (n : ℕ) (before : List Piece) (g : Piece) (after : Li
 -- ── What is answered ───────────────────────────────────────────────────
 
 -- smaller gaps before it are passed over
-abbrev past : List Piece → Fit → Fit
+abbrev past : List Piece → GapFound → GapFound
 past [] f = f
 past (g ∷ gs) f = keep g (past gs f)
 

@@ -3,7 +3,7 @@ use Rattle.std.specs.Prelude.{◌≡◌, ℕ, ◌+◌, ◌-◌, ◌<◌, ◌≤�
 use Rattle.layout.specs.Arrangement.{Piece}
 use Rattle.layout.specs.Chains.{Relinked, last_of, next_at, size_at}
 use Rattle.codeword.specs.Heads.{head_word}
-use Rattle.layout.specs.Gaps.{Fit, gap_at, no_gap}
+use Rattle.layout.specs.Gaps.{GapFound, gap_at, no_gap}
 use Rattle.layout.specs.Sound.{Each}
 use Rattle.layout.specs.Words.{first_of}
 use Rattle.store.specs.Edits.{zeroed}
@@ -44,7 +44,7 @@ cut link at n ws =
 
 -- what a search for n words answers and leaves: nothing was found and every word stays; or the n words from `at` on are no longer in
 -- the chain, and 0 past the first
-abbrev pub PlacedIn : ℕ → List ℕ → List Piece → ℕ → List ℕ → Fit → Type 0
+abbrev pub PlacedIn : ℕ → List ℕ → List Piece → ℕ → List ℕ → GapFound → Type 0
 PlacedIn n ws gs at ws' no_gap = (at ≡ 0) × (ws' ≡ ws)
 PlacedIn n ws gs at ws' (gap_at x left) =
     (at ≡ x) × Relinked ws ws' gs left × (65 ≤ at) × (at + n ≤ length ws) × ((k : ℕ) → 1 ≤ k → k < n → slice_index ws' (at + k) ≡ 0)

@@ -3,7 +3,7 @@ use Rattle.std.proofs.Common.{◌≡◌, ℕ, ◌+◌, ◌<◌, ◌≤◌, ◌�
 use lib.ListN.{length-map}
 use lib.Seq.{paste}
 use Rattle.std.proofs.lemmas.List.{map-set, get_or-drop, get_or-map, get_or-take}
-use Rattle.std.proofs.lemmas.List.Edits.{paste_all, paste_more}
+use Rattle.std.proofs.lemmas.List.Edits.{paste_more}
 use Rattle.store.specs.Edits.{laid, part}
 
 module _ {X : Type 0} (f : X → ℕ) (xs : List X) (k : ℕ) (x : X) (h : k < length xs) where
@@ -30,6 +30,3 @@ written_more f xs ws us at k w d h room e is =
     ap (λ zs. set zs (at + k) w) e
     ∙ ap (set (paste ws at (map f xs) k) (at + k)) (is ∙ sym (get_or-map f xs k d 0 h))
     ∙ paste_more ws at (map f xs) k 0 (omega arith) (omega (arith, n))
-
-pub written_all : (ws us xs : List ℕ) (at k : ℕ) → us ≡ paste ws at xs k → k ≡ length xs → us ≡ laid xs at ws
-written_all ws us xs at k e h = e ∙ paste_all ws at xs k h ∙ ap (λ n. take at ws ++ (xs ++ drop (at + n) ws)) h
