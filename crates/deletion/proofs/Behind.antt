@@ -13,7 +13,8 @@ use Rattle.layout.proofs.Cover.{covers_split, each-++, each_left, each_right}
 use Rattle.layout.proofs.Frame.{cell, other_cells}
 use Rattle.layout.proofs.Freed.{word_here}
 use Rattle.layout.proofs.Hits.{along_hits, here, here_yes, hits}
-use Rattle.layout.proofs.Kept.{cov-++, delete_covered}
+use Rattle.layout.proofs.Kept.{cov-++}
+use Rattle.layout.proofs.GivenUp.{delete_covered}
 use Rattle.layout.proofs.Rewritten.{each_kept}
 
 -- gaps whose words, and the header, are as they were

@@ -17,7 +17,8 @@ use Rattle.layout.specs.Released.{Clears}
 use Rattle.layout.specs.Walks.{walked}
 use Rattle.layout.specs.Words.{labelling}
 use Rattle.layout.proofs.Owed.{granted_now, granted_owes, place_owes}
-use Rattle.layout.proofs.Place.{Reached, Stands, booked, came, reply, shown_label, subscripts_count}
+use Rattle.layout.proofs.WalkEnd.{reply, shown_label}
+use Rattle.layout.proofs.Place.{Reached, Stands, booked, came, subscripts_count}
 use Rattle.layout.proofs.Releases.{Links}
 use Rattle.layout.proofs.Relink.{chained}
 use Rattle.deletion.proofs.Shown.{row_deleted, table_deleted}

@@ -10,10 +10,10 @@ use Rattle.layout.specs.Words.{Cell, back, cells, cells_along, datum_at, written
 use Rattle.layout.proofs.Bridge.{Fits}
 use Rattle.layout.proofs.Cells.{Shown, from_cells, to_cells}
 use Rattle.layout.proofs.Cover.{above, among, below, covered-++, covers_yes, each-++, each_left, each_right, lies}
-use Rattle.layout.proofs.Exchanges.{cells_are, code, rest, tops}
+use Rattle.layout.proofs.Tops.{cells_are, code, rest, tops}
 use Rattle.layout.proofs.Frame.{cell}
 use Rattle.layout.proofs.Hits.{here, hits, hits-++, hits_cells}
-use Rattle.layout.proofs.Place.{along_get}
+use Rattle.layout.proofs.WalkEnd.{along_get}
 use Rattle.layout.proofs.Rewritten.{each_kept, written-++}
 use Rattle.layout.proofs.Step.{copied_above, copied_below, copied_in}
 use Rattle.layout.proofs.Written.{written_other, written_shows}

@@ -23,7 +23,7 @@ use Rattle.layout.proofs.Doors.{Legal}
 use Rattle.layout.proofs.Emptied.{own_loose}
 use Rattle.layout.proofs.Freed.{once, rooted}
 use Rattle.layout.proofs.Hits.{here, here_yes, hits, hits-++, hits_cells, no_cover}
-use Rattle.layout.proofs.Kept.{all_covered, delete_length, each_drop, given_leaves, given_some}
+use Rattle.layout.proofs.GivenUp.{all_covered, delete_length, each_drop, given_leaves, given_some}
 use Rattle.layout.proofs.Place.{Stands}
 use Rattle.layout.proofs.Releases.{Links, elements}
 use Rattle.layout.proofs.Releasing.{along_drop, along_take, row_part}

@@ -25,7 +25,7 @@ use Rattle.layout.proofs.Close.{all_move}
 use Rattle.layout.proofs.Cover.{above, among, below, each_both, each_last, each_start, lies}
 use Rattle.layout.proofs.Decode.{Inside, fits_each, fits_one, total_within}
 use Rattle.layout.proofs.Frees.{not_granted, not_none}
-use Rattle.layout.proofs.Grown.{In, at_in, beside, in_concat}
+use Rattle.layout.proofs.Above.{In, at_in, beside, in_concat}
 use Rattle.layout.proofs.Kept.{each_map, gap_covered, move_good}
 use Rattle.layout.proofs.Order.{blocks_some}
 use Rattle.layout.proofs.Owed.{granted_now}

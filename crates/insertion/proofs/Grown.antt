@@ -14,11 +14,11 @@ use Rattle.layout.proofs.Bridge.{Fits}
 use Rattle.layout.proofs.Cells.{Shown, shows→cells}
 use Rattle.layout.proofs.Change.{each_get}
 use Rattle.layout.proofs.Cover.{above, among, below, each-++, each_left, each_right, lies}
-use Rattle.layout.proofs.Exchanges.{at_place, by_place, cells_hits, code, codeword_is, one_hit, rest, starts, two_hits}
+use Rattle.layout.proofs.Tops.{at_place, by_place, cells_hits, code, codeword_is, one_hit, rest, starts, two_hits}
 use Rattle.layout.proofs.Frame.{displays, inner_zero, live, to_shown}
 use Rattle.layout.proofs.Grown.{insert_length}
 use Rattle.layout.proofs.Hits.{here, here_no, here_yes, hits, hits-++, hits_cells, inner, one_word_each}
-use Rattle.layout.proofs.Place.{along_get}
+use Rattle.layout.proofs.WalkEnd.{along_get}
 use Rattle.layout.proofs.Rewritten.{each_kept, live_shown}
 use Rattle.placement.specs.Moves.{renewed}
 use Rattle.store.specs.Edits.{zeroed}

@@ -16,7 +16,8 @@ use Rattle.layout.specs.Walks.{and_then, chosen, walked}
 use Rattle.layout.specs.Words.{labelling}
 use Rattle.layout.proofs.Gone.{chosen_lt}
 use Rattle.layout.proofs.Owed.{granted_now}
-use Rattle.layout.proofs.Place.{Reached, Stands, booked, door_open, door_shut, reply, shown_label, subscripts_count}
+use Rattle.layout.proofs.WalkEnd.{door_open, door_shut, reply, shown_label}
+use Rattle.layout.proofs.Place.{Reached, Stands, booked, subscripts_count}
 use Rattle.ledger.proofs.Signs.{element_lt}
 use Rattle.insertion.specs.Openings.{longer, opened, opening_in}
 

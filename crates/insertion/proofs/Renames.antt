@@ -14,7 +14,7 @@ use Rattle.layout.proofs.Frame.{cell, live}
 use Rattle.layout.proofs.Live.{Block, In, Labelled, Owned, blocks_labelled, each_in, in_store, laws, once}
 use Rattle.layout.proofs.Order.{Tile, idle, idles, size, used, useds}
 use Rattle.layout.proofs.Rewritten.{live_shown}
-use Rattle.layout.proofs.Scan.{first_from, tiles}
+use Rattle.layout.proofs.Tiles.{first_from, tiles}
 use Rattle.layout.proofs.Step.{label_reads, no_back}
 use Rattle.placement.specs.Moves.{aimed, block_size}
 use Rattle.insertion.specs.Raises.{above, renamed_at}

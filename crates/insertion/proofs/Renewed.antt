@@ -9,7 +9,7 @@ use lib.Signed.{mag}
 use Rattle.layout.specs.Arrangement.{Codes, Data, Placed, Vacant}
 use Rattle.layout.specs.Words.{label, labelling, word}
 use Rattle.layout.proofs.Bridge.{Fits}
-use Rattle.layout.proofs.Exchanges.{code, starts}
+use Rattle.layout.proofs.Tops.{code, starts}
 use Rattle.layout.proofs.Hits.{here, here_no}
 use Rattle.layout.proofs.Written.{not_here}
 use Rattle.placement.specs.Moves.{renewed, renewed_at}

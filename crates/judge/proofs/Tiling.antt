@@ -6,7 +6,7 @@ use Rattle.std.proofs.lemmas.Bool.Decides.{nat_tests}
 use Rattle.layout.specs.Holds.{Chain}
 use Rattle.layout.specs.Sound.{Each}
 use Rattle.layout.specs.Words.{first_of, total}
-use Rattle.layout.proofs.Scan.{first_from}
+use Rattle.layout.proofs.Tiles.{first_from}
 use Rattle.layout.proofs.Order.{Tile, idle, idles, size, used, useds}
 use Rattle.ledger.specs.Trees.{sum}
 use Rattle.judge.specs.Tiles.{high, is_blank, is_gap, low, outcome, scan, tile_size}

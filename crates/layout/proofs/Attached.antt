@@ -16,7 +16,7 @@ use Rattle.layout.proofs.Cells.{Shown}
 use Rattle.layout.proofs.Cover.{covers_yes, each-++, each_left, each_right}
 use Rattle.layout.proofs.Frame.{cell, displays, inner_zero, live, to_shown}
 use Rattle.layout.proofs.Hits.{here, here_yes, hits, hits-++, hits_gaps, one_word_each}
-use Rattle.layout.proofs.Kept.{link_covered, link_others}
+use Rattle.layout.proofs.GivenUp.{link_covered, link_others}
 use Rattle.layout.proofs.Order.{Some}
 use Rattle.layout.proofs.Place.{Stands}
 use Rattle.layout.proofs.Rewritten.{each_kept, live_shown}

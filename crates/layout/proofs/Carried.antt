@@ -9,7 +9,7 @@ use Rattle.layout.specs.Sound.{Each, covered, covers}
 use Rattle.layout.specs.Words.{total}
 use Rattle.layout.proofs.Change.{Climbs, at_most_1}
 use Rattle.layout.proofs.Cover.{above, among, below, covers_low, covers_yes, lies}
-use Rattle.layout.proofs.Kept.{all_climb, all_covered, all_sized, all_total, link_cases}
+use Rattle.layout.proofs.GivenUp.{all_climb, all_covered, all_sized, all_total, link_cases}
 use Rattle.layout.proofs.Order.{Some}
 use Rattle.layout.proofs.Taken.{From, clear}
 

@@ -13,7 +13,7 @@ use Rattle.layout.specs.Sound.{Each, Good, Sound, Tiled, covered, covers}
 use Rattle.layout.specs.Words.{first_of, labelling, total}
 use Rattle.layout.proofs.Cover.{is_false, each_both, each_left, each_right, each_start, each_last, lies, below, among, above}
 use Rattle.layout.proofs.Order.{Some, blocks_some, ordered}
-use Rattle.layout.proofs.Refine.{tiles_total}
+use Rattle.layout.proofs.FreeWords.{tiles_total}
 use Rattle.layout.proofs.Bridge.{Fits, along_map, along_imp, along_each, shown_held}
 use Rattle.codeword.proofs.Packing.{unpacked_packed}
 

@@ -14,7 +14,7 @@ use Rattle.ledger.specs.Doors.{Outcome, Past, bad_base, bad_fields, bad_run, bad
 use Rattle.ledger.specs.Ledger.{ask, room, if_room, walk}
 use Rattle.ledger.specs.Trees.{Tree, Trees, W, bare, free}
 use Rattle.ledger.proofs.Asked.{Asks, away, asked}
-use Rattle.layout.proofs.Refine.{tree_vacant}
+use Rattle.layout.proofs.Leaves.{tree_vacant}
 use Rattle.layout.proofs.Change.{At, AtTrace, named}
 
 -- ── Tests ──────────────────────────────────────────────────────────────

@@ -7,7 +7,7 @@ use Rattle.layout.specs.Released.{run}
 use Rattle.layout.specs.Sound.{covered, covers}
 use Rattle.layout.proofs.Chains.{chain_same, outside}
 use Rattle.layout.proofs.Cover.{above, among, below, covered-++, covers_yes, lies}
-use Rattle.layout.proofs.Kept.{all_covered}
+use Rattle.layout.proofs.GivenUp.{all_covered}
 
 -- ── A word in no gap is written ────────────────────────────────────────
 

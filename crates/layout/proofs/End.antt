@@ -13,7 +13,8 @@ use Rattle.layout.proofs.Frame.{live}
 use Rattle.layout.proofs.Kept.{each_map}
 use Rattle.layout.proofs.Live.{In, in_each, in_store}
 use Rattle.layout.proofs.Order.{Tile}
-use Rattle.layout.proofs.Scan.{Walk, reach, reached, same_names, tiles}
+use Rattle.layout.proofs.Tiles.{reach, reached, tiles}
+use Rattle.layout.proofs.Scan.{Walk, same_names}
 use Rattle.layout.proofs.Step.{renamed}
 
 moved_names : (f : ℕ → ℕ) (w : Says) → renamed f f w ≡ says_moved f w

@@ -15,10 +15,11 @@ use Rattle.layout.specs.Released.{Releases}
 use Rattle.layout.specs.Sound.{Sound}
 use Rattle.layout.specs.Walks.{walked}
 use Rattle.layout.proofs.Freed.{freed_shown, rooted}
-use Rattle.layout.proofs.Kept.{freed_sound}
+use Rattle.layout.proofs.GivenUp.{freed_sound}
 use Rattle.layout.proofs.Owed.{granted_now, granted_owes, place_owes}
 use Rattle.layout.proofs.Relink.{chained}
-use Rattle.layout.proofs.Place.{Fitting, Reached, Stands, booked, came, reached, shown_label, subscripts_count}
+use Rattle.layout.proofs.Place.{Fitting, Reached, Stands, booked, came, reached, subscripts_count}
+use Rattle.layout.proofs.WalkEnd.{shown_label}
 
 pub not_granted : (r : Refusal) (a : Answer) → refused r ≡ granted a → ⊥
 not_granted r a e = let w : ◌≡◌ {A = ℕ} 0 1 = cc in omega arith

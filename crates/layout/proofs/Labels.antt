@@ -18,7 +18,8 @@ use Rattle.layout.specs.Walks.{walked}
 use Rattle.layout.specs.Words.{back, cells, cells_along, datum_at, label, labelling}
 use Rattle.layout.proofs.Frame.{cell, wrote}
 use Rattle.layout.proofs.Owed.{granted_now, granted_owes, place_owes}
-use Rattle.layout.proofs.Place.{Reached, booked, came, door_open, door_shut, replied, reply, shown_label, subscripts_count}
+use Rattle.layout.proofs.WalkEnd.{door_open, door_shut, reply, shown_label}
+use Rattle.layout.proofs.Place.{Reached, booked, came, replied, subscripts_count}
 
 abbrev extent : Codeword → Reply
 extent c = granted (Spans (Some (c.base, c.length, c.r, c.kind)))

@@ -23,13 +23,15 @@ use Rattle.ledger.specs.Needs.{needs, released, releases, weight_at}
 use Rattle.ledger.specs.Trees.{Trees, free, no_trees, tree_of}
 use Rattle.layout.proofs.Unique.{unique}
 use Rattle.ledger.proofs.Asked.{ask_asks}
-use Rattle.layout.proofs.Refine.{refines, tidy_leaves_trees, total_is_free}
+use Rattle.layout.proofs.FreeWords.{total_is_free}
+use Rattle.layout.proofs.Refine.{refines, tidy_leaves_trees}
 use Rattle.layout.proofs.Order.{ordered}
 use Rattle.layout.proofs.Written.{words_shown}
 use Rattle.layout.proofs.Decode.{told, total_within, trees_told}
 use Rattle.layout.proofs.Change.{AtTrace}
 use Rattle.layout.proofs.Doors.{Legal, ask_past, granted_past}
-use Rattle.layout.proofs.Kept.{made_sound, closed_up_sound, write_sound, row_write_sound, rebase_sound, exchange_sound, freed_sound, delete_sound}
+use Rattle.layout.proofs.Kept.{made_sound, closed_up_sound, write_sound, row_write_sound, rebase_sound, exchange_sound}
+use Rattle.layout.proofs.GivenUp.{freed_sound, delete_sound}
 use Rattle.layout.proofs.Taken.{take_sound}
 use Rattle.layout.proofs.Grown.{insert_sound}
 

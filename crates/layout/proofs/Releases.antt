@@ -13,7 +13,7 @@ use Rattle.layout.proofs.Carried.{few_words, linked_known}
 use Rattle.layout.proofs.Cover.{covers_none}
 use Rattle.layout.proofs.Emptied.{block_gone, own_inside, own_loose}
 use Rattle.layout.proofs.Order.{Some, concat_some, pieces_some}
-use Rattle.layout.proofs.Place.{shown_label}
+use Rattle.layout.proofs.WalkEnd.{shown_label}
 use Rattle.layout.proofs.Releasing.{run_within}
 
 -- a piece of so many words from an address on is linked

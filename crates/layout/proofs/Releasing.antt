@@ -12,11 +12,11 @@ use Rattle.layout.proofs.Cells.{cells→shows, shows→cells}
 use Rattle.layout.proofs.Change.{at_most_1, each_get}
 use Rattle.layout.proofs.Cover.{above, among, below, covered-++, covers_high, covers_low, covers_split, covers_yes, lies}
 use Rattle.layout.proofs.Hits.{hits_cells}
-use Rattle.layout.proofs.Kept.{all_covered, each_drop, each_take}
+use Rattle.layout.proofs.GivenUp.{all_covered, each_drop, each_take}
 use Rattle.layout.proofs.Linking.{all_turn, apart_away}
 use Rattle.layout.proofs.Order.{concat_some, pieces_some}
-use Rattle.layout.proofs.Place.{along_get}
-use Rattle.layout.proofs.Refine.{total-++}
+use Rattle.layout.proofs.WalkEnd.{along_get}
+use Rattle.layout.proofs.FreeWords.{total-++}
 use Rattle.layout.proofs.Rewritten.{each_kept}
 
 -- ── Fronts of a list ───────────────────────────────────────────────────

@@ -11,7 +11,8 @@ use Rattle.layout.specs.Words.{total, words_of}
 use Rattle.layout.proofs.Change.{Climbs, at_most_1, stronger, weaker}
 use Rattle.layout.proofs.CloseCells.{one_gap}
 use Rattle.layout.proofs.Cover.{above, among, below, each_left, each_right, each_start, lies}
-use Rattle.layout.proofs.Kept.{closed_up_sound, link_climbs, link_covered, link_each}
+use Rattle.layout.proofs.Kept.{closed_up_sound}
+use Rattle.layout.proofs.GivenUp.{link_climbs, link_covered, link_each}
 use Rattle.layout.proofs.Laws.{tidy_left}
 use Rattle.layout.proofs.Order.{Some, blocks_some}
 use Rattle.layout.proofs.Taken.{Tried, combine_same, failed, first_fits, fitted}

@@ -24,7 +24,8 @@ use Rattle.layout.specs.Walks.{and_then, chosen, walked}
 use Rattle.layout.specs.Words.{Cell, back, cells, cells_along, datum, datum_at, label, labelling}
 use Rattle.layout.proofs.Frame.{cell, wrote}
 use Rattle.layout.proofs.Owed.{granted_now, granted_owes, place_owes}
-use Rattle.layout.proofs.Place.{Reached, Stands, along_get, booked, came, door_open, door_shut, replied, reply, shown_label, spread_at, subscripts_count}
+use Rattle.layout.proofs.WalkEnd.{along_get, door_open, door_shut, reply, shown_label, spread_at}
+use Rattle.layout.proofs.Place.{Reached, Stands, booked, came, replied, subscripts_count}
 use Rattle.ledger.proofs.Signs.{element_lt}
 
 -- ── One step, on words ─────────────────────────────────────────────────

@@ -23,7 +23,8 @@ use Rattle.layout.specs.Words.{Cell, back, cells, cells_along, datum, datum_at, 
 use Rattle.layout.proofs.Frame.{cell}
 use Rattle.layout.proofs.Hits.{here, hits}
 use Rattle.layout.proofs.Owed.{granted_now, granted_owes, place_owes}
-use Rattle.layout.proofs.Place.{along_get, booked, door_open, door_shut, replied, reply}
+use Rattle.layout.proofs.WalkEnd.{along_get, door_open, door_shut, reply}
+use Rattle.layout.proofs.Place.{booked, replied}
 use Rattle.layout.proofs.Rewritten.{rewrote}
 use Rattle.layout.proofs.Rows.{Selected, element_inside, few_words, picked}
 use Rattle.ledger.proofs.Signs.{element_lt}

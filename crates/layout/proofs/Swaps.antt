@@ -18,7 +18,8 @@ use Rattle.layout.specs.Walks.{and_then, chosen, gone_down, walked}
 use Rattle.layout.proofs.Exchanges.{exchange_shown}
 use Rattle.layout.proofs.Gone.{gone_nothing, gone_row, gone_table}
 use Rattle.layout.proofs.Owed.{granted_now, granted_owes, place_owes}
-use Rattle.layout.proofs.Place.{Reached, Stands, booked, came, door_open, door_shut, reply, shown_label, subscripts_count}
+use Rattle.layout.proofs.WalkEnd.{door_open, door_shut, reply, shown_label}
+use Rattle.layout.proofs.Place.{Reached, Stands, booked, came, subscripts_count}
 use Rattle.ledger.proofs.Signs.{element_lt}
 
 module _ (ws : List ℕ) (few : length ws ≤ 2 ^ 18) (A : Arrangement) (t : Trace) (at : ℕ) (z : ℤ) where

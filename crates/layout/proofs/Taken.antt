@@ -18,9 +18,11 @@ use Rattle.ledger.specs.Needs.{weight_at}
 use Rattle.ledger.specs.Trees.{Tree, free, tree_of}
 use Rattle.layout.proofs.Cover.{covers_yes, covers_split, covered-++, each_imp, each-++}
 use Rattle.layout.proofs.Order.{Some, ordered}
-use Rattle.layout.proofs.Refine.{total_is_free, weight, tree_vacant}
+use Rattle.layout.proofs.FreeWords.{total_is_free, weight}
+use Rattle.layout.proofs.Leaves.{tree_vacant}
 use Rattle.layout.proofs.Change.{At, AtTrace, named, name_in, at_change, at_move, at_out, at_most_1, Climbs, weaker, Decent, decent, trace_sound}
-use Rattle.layout.proofs.Kept.{each_replicate, cov_none, gap_covered, gap_sized, closed_up_sound, all_total, freed_sound}
+use Rattle.layout.proofs.Kept.{each_replicate, cov_none, gap_covered, gap_sized, closed_up_sound}
+use Rattle.layout.proofs.GivenUp.{all_total, freed_sound}
 use Rattle.layout.proofs.Doors.{Legal}
 
 -- ── The first gap that fits ─────────────────────────────────────────────────────────────────

@@ -32,12 +32,14 @@ use Rattle.layout.proofs.Cover.{above, among, below, covers_yes, lies}
 use Rattle.layout.proofs.Decode.{trees_told}
 use Rattle.layout.proofs.Freed.{rooted}
 use Rattle.layout.proofs.Frees.{Again, freed_by, walks_again}
-use Rattle.layout.proofs.Kept.{all_total, link_covered}
+use Rattle.layout.proofs.GivenUp.{all_total, link_covered}
 use Rattle.layout.proofs.Laws.{gaps_are_free, lawful}
 use Rattle.layout.proofs.Order.{pieces_some}
 use Rattle.layout.proofs.Owed.{granted_owes, place_owes}
-use Rattle.layout.proofs.Place.{Fitting, Reached, Stands, booked, came, door_open, door_shut, fitting, reply, subscripts_count}
-use Rattle.layout.proofs.Refine.{find_trees, weight}
+use Rattle.layout.proofs.WalkEnd.{door_open, door_shut, reply}
+use Rattle.layout.proofs.Place.{Fitting, Reached, Stands, booked, came, fitting, subscripts_count}
+use Rattle.layout.proofs.FreeWords.{weight}
+use Rattle.layout.proofs.Refine.{find_trees}
 
 -- ── The label of the new block ─────────────────────────────────────────
 

@@ -1,5 +1,5 @@
 -- A new block: its label, and what labelling it does to the words.
-use Rattle.std.specs.Prelude.{◌≡◌, ℕ, ◌+◌, Bool, cond, not, ◌&&◌, ◌||◌, List, ℤ, Ok, Err, Result, ◌==◌, nat_lt, slice_set}
+use Rattle.std.specs.Prelude.{◌≡◌, ℕ, ◌+◌, Bool, cond, List, ℤ, Ok, Err, Result, ◌==◌, slice_set}
 use Rattle.booking.specs.declared.refusal.Refusal.{Refusal}
 use Rattle.booking.specs.declared.refusal.Refusal.TheVariants.{BadField, BadLength}
 use Rattle.codeword.specs.Codeword.{InWidth, packed}

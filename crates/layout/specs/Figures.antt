@@ -1,6 +1,6 @@
 -- The worked figures, as one table of equations over the definitions. But for the first lines the store has 75 words, bases are 1 and
 -- rows are of type 1; state A has name 1 with a row of 3 and name 2 with a row of 2.
-use Rattle.std.specs.Prelude.{◌≡◌, ℕ, ◌+◌, ◌*◌, ◌^◌, ◌≤◌, true, false, List, [], ◌∷◌, map, replicate, ℤ, pos, negsuc, slice_index, refl}
+use Rattle.std.specs.Prelude.{◌≡◌, ℕ, ◌≤◌, true, false, List, [], ◌∷◌, map, replicate, ℤ, pos, negsuc, slice_index, refl}
 use Rattle.std.proofs.Common.{lit≤}
 use Rattle.codeword.specs.Codeword.{packed, unpacked}
 use Rattle.codeword.specs.Heads.{head_word}

@@ -8,7 +8,8 @@ use Rattle.layout.specs.Sound.{Sound}
 use Rattle.layout.specs.Words.{Says, back, datum, label, none, word}
 use Rattle.layout.proofs.CloseCells.{down, low}
 use Rattle.layout.proofs.Order.{Tile, idle, used}
-use Rattle.layout.proofs.Scan.{Walk, level, pass_block, reach, reached, tiles, unreached, walk_start}
+use Rattle.layout.proofs.Tiles.{level, pass_block, reach, reached, tiles, unreached}
+use Rattle.layout.proofs.Scan.{Walk, walk_start}
 use Rattle.layout.proofs.Step.{renamed}
 use Rattle.placement.specs.Moves.{closing_from}
 

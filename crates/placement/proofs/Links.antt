@@ -10,7 +10,7 @@ use Rattle.layout.specs.Sound.{Each, covered}
 use Rattle.layout.specs.Words.{first_of, total}
 use Rattle.layout.proofs.Cover.{covers_yes, each-++, each_imp}
 use Rattle.layout.proofs.Chains.{Outside, chain_join, chain_keep, chain_same, chain_split, first-++, first_at, first_or, here_is, last-++, outside, outside_last, relink, rising_first, rising_right, rising_total, rising_below, rising_upto, seg_keep}
-use Rattle.layout.proofs.Refine.{total-++}
+use Rattle.layout.proofs.FreeWords.{total-++}
 use Rattle.placement.specs.Links.{Ahead, Sought, spliced}
 use Rattle.store.specs.Edits.{zeroed}
 use Rattle.store.proofs.Zeroed.{zeroed_above, zeroed_at, zeroed_below, length_zeroed}

@@ -9,7 +9,7 @@ use Rattle.layout.specs.Gaps.{combined, join}
 use Rattle.layout.specs.Sound.{covered}
 use Rattle.layout.specs.Words.{first_of, total}
 use Rattle.layout.proofs.Chains.{Here, Outside, chain_join, chain_keep, chain_split, first-++, first_at, here_is, outside, outside_right, outside_swap, rising_first, rising_right, rising_swap, rising_upto, seg_keep}
-use Rattle.layout.proofs.Refine.{total-++}
+use Rattle.layout.proofs.FreeWords.{total-++}
 use Rattle.placement.specs.Gaps.{joined, touch}
 
 -- ── Joining gap by gap ─────────────────────────────────────────────────

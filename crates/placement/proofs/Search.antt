@@ -11,7 +11,7 @@ use Rattle.layout.specs.Sound.{Each}
 use Rattle.layout.specs.Words.{first_of, total}
 use Rattle.layout.proofs.Cover.{each-++, each_right}
 use Rattle.layout.proofs.Chains.{chain_join, chain_keep, chain_split, first-++, first_at, first_or, gap_some, here_is, last-++, outside, outside_last, outside_right, relink, rising_first, rising_more, rising_right, rising_swap, rising_total, rising_upto, seg_keep}
-use Rattle.layout.proofs.Refine.{total-++}
+use Rattle.layout.proofs.FreeWords.{total-++}
 use Rattle.placement.specs.Gaps.{Finds, Fits, PlacedIn, Spotted, closed, cut}
 
 -- ── Where the walk stands ──────────────────────────────────────────────

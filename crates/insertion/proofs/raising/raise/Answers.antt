@@ -4,7 +4,7 @@ use Rattle.layout.specs.Words.{first_of}
 use Rattle.store.specs.Edits.{lifted}
 use Rattle.layout.proofs.Chains.{first_at}
 use Rattle.layout.proofs.Relink.{chained}
-use Rattle.layout.proofs.Scan.{tiles}
+use Rattle.layout.proofs.Tiles.{tiles}
 use Rattle.insertion.proofs.Renames.{owner_small, pass_on, pass_start}
 use Rattle.insertion.proofs.Raised.{raises_so}
 use Rattle.insertion.proofs.raising.raise.Goals as goal
