@@ -1,4 +1,4 @@
-ghost use Rattle.std.specs.Prelude.{◌≡◌, ℕ, ◌^◌, ◌<◌};
+ghost use Rattle.std.specs.Prelude.{◌≡◌, ℕ, ◌^◌, ◌<◌, length, map};
 
 /// What the words of a data block mean. A kind has a type number, and turns an item into a word and a word into an item; each
 /// turning undoes the other. It is no pair of `From`, since items are also numbers, whose `From` is not ours to write.
@@ -26,6 +26,29 @@ pub trait Kind {
     /// The item that a word means.
     fn from_word(w: u64) -> Self::Item
         ensures { result ≡ item w };
+
+    /// The words of items, into a list of the same length.
+    #[tactic(auto, using(crate::proofs::Turned::turned_all))]
+    fn to_words(items: &[Self::Item], words: &mut [u64])
+        requires { length items.now ≡ length words.old }
+        ensures { words.new ≡ map word items.now }
+    {
+        // By slice and index, as is asked for.
+        for (k, item) in items.iter().enumerate() {
+            words[k] = Self::to_word(*item);
+        }
+    }
+
+    /// The items that words mean, into a list of the same length.
+    #[tactic(auto, using(crate::proofs::Turned::turned_all))]
+    fn from_words(words: &[u64], items: &mut [Self::Item])
+        requires { length words.now ≡ length items.old }
+        ensures { items.new ≡ map item words.now }
+    {
+        for (k, word) in words.iter().enumerate() {
+            items[k] = Self::from_word(*word);
+        }
+    }
 
     // A word means an item whose word it is.
     ghost back: { (n : ℕ) → n < 2 ^ 64 → word (item n) ≡ n };

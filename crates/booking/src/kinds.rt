@@ -41,6 +41,15 @@ impl Kind for Words {
     fn from_word(w: u64) -> u64 {
         w
     }
+
+    // A word is its item, so that all are copied at once.
+    fn to_words(items: &[u64], words: &mut [u64]) {
+        words.copy_from_slice(items);
+    }
+
+    fn from_words(words: &[u64], items: &mut [u64]) {
+        items.copy_from_slice(words);
+    }
 }
 
 impl Kind for Amounts {

@@ -1,5 +1,0 @@
-use Rattle.std.proofs.Common.{◌≡◌, ℕ, ◌+◌, ◌<◌, map, get_or}
-use Rattle.elements.proofs.rows.read_row.Given as goal
-
-abbrev pub invariant-loop-k : goal.invariant-loop-k
-invariant-loop-k g l = (m : ℕ) → m < l.k → get_or (map g.K.Kind.word l.items) m 0 ≡ get_or (g.S.Store.words l.store) (l.at + m) 0
