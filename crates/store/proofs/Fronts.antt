@@ -1,11 +1,13 @@
 -- The counted words of a list and of two lists in a row, and the words past them.
-use Rattle.std.proofs.Common.{◌≡◌, ℕ, ◌-◌, ◌^◌, ◌<◌, ◌≤◌, List, ◌++◌, map, length, get_or, set, sym, refl, ap, ◌∙◌, arith}
-use Rattle.std.proofs.lemmas.List.{drop-set-lt, get_or_append_left, get_or-append_right, get_or-map, get_or-take, length-take, map-set, set-append_left, set-append_right}
+use Rattle.std.proofs.Common.{◌≡◌, ℕ, ◌+◌, ◌-◌, ◌^◌, ◌<◌, ◌≤◌, List, ◌++◌, map, length, get_or, set, drop, sym, refl, ap, ◌∙◌, arith, length-drop}
+use Rattle.std.proofs.lemmas.List.{drop-set-lt, get_or_append_left, get_or-append_right, get_or-drop, get_or-map, get_or-take, length-take, map-set, set-append_left, set-append_right}
 use Rattle.std.proofs.Math.Seq.{take-set-lt}
 use Rattle.store.proofs.Calls.{alike}
+use Rattle.store.proofs.Items.{drop_laid, map_laid, read_all, take_laid, wrapped_all}
+use Rattle.store.specs.Edits.{laid, part}
 use Rattle.store.specs.Members.{length_lent, length_row}
 use Rattle.store.specs.Parts.{First, Second}
-use Rattle.store.specs.Words.{most, front, beyond, wrapped, lent_words, joined_words, joined_beyond}
+use Rattle.store.specs.Words.{most, front, beyond, Fit, wrapped, lent_words, joined_words, joined_beyond}
 
 -- a lent list: a word of it, and a write
 pub lent_word : (ws : List ℕ) (at : ℕ) → at < length (lent_words ws) → get_or ws at 0 < 2 ^ 64 → get_or ws at 0 ≡ get_or (lent_words ws) at 0
@@ -23,6 +25,25 @@ lent_set ws at w h f =
 
 pub beyond_set : (ws : List ℕ) (at w : ℕ) → at < most → beyond (set ws at w) ≡ beyond ws
 beyond_set ws at w h = drop-set-lt most ws at w h
+
+-- many words of a lent list read, and written
+pub lent_part : (ws : List ℕ) (from n : ℕ) → Fit ws → from + n ≤ length (lent_words ws) → part from n ws ≡ part from n (lent_words ws)
+lent_part ws from n fit h =
+    let l = length_lent ws in
+    read_all (lent_words ws) (part from n ws) from n (length-take n (drop from ws) ∙ omega (arith, length-drop from ws)) h
+    (λ m b. get_or-take n (drop from ws) m 0 b ∙ get_or-drop from ws m 0 ∙ lent_word ws (from + m) (omega arith) (fit (from + m)))
+
+pub lent_laid : (xs ws : List ℕ) (from : ℕ) → Fit xs → from + length xs ≤ length (lent_words ws) → lent_words (laid xs from ws) ≡ laid xs from (lent_words ws)
+unfolding lent_words
+lent_laid xs ws from fit h =
+    let l = length_lent ws in
+    ap (map wrapped) (take_laid most from xs ws (omega arith) (omega arith))
+    ∙ map_laid wrapped xs from (front ws) ∙ ap (λ ys. laid ys from (lent_words ws)) (wrapped_all xs fit)
+
+pub beyond_laid : (xs ws : List ℕ) (from : ℕ) → from + length xs ≤ length (lent_words ws) → beyond (laid xs from ws) ≡ beyond ws
+beyond_laid xs ws from h =
+    let l = length_lent ws in
+    drop_laid most from xs ws (omega arith) (omega arith)
 
 -- two lists in a row: each part of both
 module _ (xs ys : List ℕ) (at : ℕ) (h : at < length (joined_words xs ys)) where

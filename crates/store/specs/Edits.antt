@@ -17,6 +17,10 @@ over n xs ys = take n xs ++ drop n ys
 abbrev pub overlaid : List ℕ → List ℕ → List ℕ
 overlaid xs ys = over (min (length xs) (length ys)) xs ys
 
+-- the same from an address of the other on
+abbrev pub overlaid_from : List ℕ → ℕ → List ℕ → List ℕ
+overlaid_from xs from ws = take from ws ++ overlaid xs (drop from ws)
+
 -- n words of a list are copied from `from` on to `to` on, one after another
 unfoldable pub copied : ℕ → ℕ → ℕ → List ℕ → List ℕ
 copied zero from to ws = ws

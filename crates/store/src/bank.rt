@@ -34,6 +34,28 @@ pub trait Lendable: Copy {
         requires { at < length (words list.old) }
         ensures after { words list.new ≡ slice_set (words list.old) at word }
         ensures rest { past list.new ≡ past list.old };
+
+    /// Copies as many counted words as the list of items has, from an address on, into it, each as an item of the kind.
+    fn read_items<K: Kind>(list: &[Self], from: u64, items: &mut [K::Item])
+        requires { from + length items.old ≤ length (words list.now) }
+        ensures { map K.Kind.word items.new ≡ part from (length items.old) (words list.now) }
+    {
+        for (k, item) in items.iter_mut().enumerate() {
+            *item = K::from_word(Self::word_of(list, from + k as u64));
+        }
+    }
+
+    /// Replaces as many counted words as the list of items has, from an address on, by the words of its items.
+    fn write_items<K: Kind>(list: &mut [Self], from: u64, items: &[K::Item])
+        requires { from + length items.now ≤ length (words list.old) }
+        ensures after { words list.new ≡ laid (map K.Kind.word items.now) from (words list.old) }
+        ensures rest { past list.new ≡ past list.old }
+    {
+        // By slice and index, as is asked for.
+        for (k, item) in items.iter().enumerate() {
+            Self::write_word(list, from + k as u64, K::to_word(*item));
+        }
+    }
 }
 
 /// A store in a list that the caller lends. What lies past its counted words is never written.
@@ -81,28 +103,6 @@ fn zero_in<E: Lendable>(list: &mut [E], from: u64, n: u64)
     }
 }
 
-/// Copies as many words as the list of items has, from an address on, into it.
-fn read_in<E: Lendable, K: Kind>(list: &[E], from: u64, items: &mut [K::Item])
-    requires { from + length items.old ≤ length (E.Lendable.words list.now) }
-    ensures { map K.Kind.word items.new ≡ part from (length items.old) (E.Lendable.words list.now) }
-{
-    for (k, item) in items.iter_mut().enumerate() {
-        *item = K::from_word(E::word_of(list, from + k as u64));
-    }
-}
-
-/// Replaces as many words as the list of items has, from an address on.
-fn write_in<E: Lendable, K: Kind>(list: &mut [E], from: u64, items: &[K::Item])
-    requires { from + length items.now ≤ length (E.Lendable.words list.old) }
-    ensures after { E.Lendable.words list.new ≡ laid (map K.Kind.word items.now) from (E.Lendable.words list.old) }
-    ensures rest { E.Lendable.past list.new ≡ E.Lendable.past list.old }
-{
-    // By slice and index, as is asked for.
-    for (k, item) in items.iter().enumerate() {
-        E::write_word(list, from + k as u64, K::to_word(*item));
-    }
-}
-
 impl<'a, E: Lendable> Store for Bank<'a, E> {
     ghost words = { λ s. E.words s.lent.now };
 
@@ -146,10 +146,10 @@ impl<'a, E: Lendable> Store for Bank<'a, E> {
     }
 
     fn read_items<K: Kind>(&self, from: u64, items: &mut [K::Item]) {
-        read_in::<E, K>(self.lent, from, items);
+        E::read_items::<K>(self.lent, from, items);
     }
 
     fn write_items<K: Kind>(&mut self, from: u64, items: &[K::Item]) {
-        write_in::<E, K>(self.lent, from, items);
+        E::write_items::<K>(self.lent, from, items);
     }
 }

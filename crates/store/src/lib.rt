@@ -12,7 +12,7 @@ mod word_bank;
 
 pub use access::{put, word};
 pub use bank::{Bank, Lendable};
-pub use bulk::{clear, copy_down, copy_in, copy_out, copy_up};
+pub use bulk::{clear, copy_down, copy_in, copy_out, copy_up, read_from, write_from};
 pub use byte_bank::ByteBank;
 pub use joined::Joined;
 pub use store::{MOST, Store};

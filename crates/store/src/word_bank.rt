@@ -3,6 +3,7 @@ ghost use Rattle.store.specs.Words.{beyond, lent_words};
 
 use crate::bank::{Bank, Lendable};
 use crate::store::MOST;
+use booking::Kind;
 
 /// A store in words that the caller lends. Words past the most are not counted and never written.
 pub type WordBank<'a> = Bank<'a, u64>;
@@ -29,5 +30,15 @@ impl Lendable for u64 {
     #[tactic(auto, using(crate::specs::Members::length_lent, crate::proofs::Fronts::lent_set, crate::proofs::Fronts::beyond_set))]
     fn write_word(list: &mut [u64], at: u64, word: u64) {
         list[at as usize] = word;
+    }
+
+    fn read_items<K: Kind>(list: &[u64], from: u64, items: &mut [K::Item]) {
+        let from = from as usize;
+        K::from_words(&list[from..from + items.len()], items);
+    }
+
+    fn write_items<K: Kind>(list: &mut [u64], from: u64, items: &[K::Item]) {
+        let from = from as usize;
+        K::to_words(items, &mut list[from..from + items.len()]);
     }
 }

@@ -1,6 +1,9 @@
-use Rattle.store.proofs.Copies.{copied_in}
+use Rattle.std.proofs.Common.{ap, ◌∙◌}
+use Rattle.std.proofs.lemmas.List.{map-id}
+use Rattle.store.specs.Edits.{overlaid}
 use Rattle.store.proofs.bulk.copy_in.Goals as goal
 
+-- a word is its item
 pub returns-clause-after : goal.returns-clause-after
 returns-clause-after g c =
-    copied_in (g.S.Store.words c.args.store.now) c.args.list.now _ c.count.result c.min-n.result c.write_items.ensures.after c.min-n.ensures c.count.ensures
+    c.write_from.ensures.after ∙ ap (λ xs. overlaid xs (g.S.Store.words c.args.store.now)) (map-id c.args.list.now)

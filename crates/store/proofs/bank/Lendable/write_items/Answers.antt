@@ -1,12 +1,12 @@
-use Rattle.std.proofs.Common.{ap, ◌∙◌, arith}
-use Rattle.store.proofs.Items.{written_more}
-use Rattle.store.proofs.bank.write_in.Goals as goal
+use Rattle.std.proofs.Common.{refl, ap, ◌∙◌, arith}
+use Rattle.booking.proofs.Turned.{turned_more}
+use Rattle.store.proofs.bank.Lendable.write_items.Goals as goal
 
 pub loop-k-preserved : goal.loop-k-preserved
 loop-k-preserved g c =
     let f = g.K.Kind.word in (
       c.write_word.ensures.after
-          ∙ written_more f c.args.items.now _ _ c.args.from c.loop-k.k _ c.index-items-k.result (omega arith) (omega arith) c.loop-k.invariant.0
+          ∙ turned_more f c.args.items.now _ _ c.args.from c.loop-k.k _ _ c.index-items-k.result refl (omega arith) (omega arith) c.loop-k.invariant.0
           (c.to_word.ensures.gives ∙ ap f c.index-items-k.is),
       c.write_word.ensures.rest ∙ c.loop-k.invariant.1,
     )
