@@ -1,7 +1,8 @@
 -- Where a row of elements begins, and what refusing it owes.
-use Rattle.std.proofs.Common.{◌≡◌, ℕ, ◌+◌, ◌^◌, ◌<◌, ◌≤◌, Bool, true, false, cond, ◌||◌, eqb, ltb, ◌⊎◌, List, [], ◌∷◌, ◌++◌, map, length, get_or, set, take, drop, add-zero, append_assoc, take-append-drop, ℤ, Ok, Err, Result, refl, ap, ◌∙◌, sym, subst, inl, inr, arith}
+use Rattle.std.proofs.Common.{◌≡◌, ℕ, ◌+◌, ◌<◌, ◌≤◌, Bool, true, false, cond, ◌||◌, min, eqb, ltb, ◌⊎◌, List, [], ◌∷◌, ◌++◌, length, get_or, set, take, drop, add-zero, append_assoc, take-append-drop, ℤ, Ok, Err, Result, refl, ap, ◌∙◌, sym, subst, inl, inr, arith}
 use Rattle.std.proofs.lemmas.Bool.Decides.{nat_tests}
-use Rattle.std.proofs.lemmas.List.{at_drop_more, drop-set-lt, get_or-drop, get_or-take, length-set, take_more_set}
+use Rattle.std.proofs.lemmas.List.{drop-drop, drop-set-lt, length-append, length-drop, length-set, length-take, places, take_more_set}
+use lib.Seq.{take-length}
 use Rattle.booking.specs.Bookings.{RowRead, RowWrite, on, refused}
 use Rattle.booking.specs.declared.refusal.Refusal.{Refusal}
 use Rattle.booking.specs.declared.refusal.Refusal.TheVariants.{BadLength}
@@ -14,8 +15,8 @@ use Rattle.layout.specs.Holds.{Holds}
 use Rattle.layout.specs.Walks.{and_then}
 use Rattle.layout.specs.Words.{written}
 use Rattle.layout.proofs.Rows.{row_reads, row_refused, row_writes}
-use Rattle.layout.proofs.Runs.{data_cells, found_small, row_read_refused, row_write_refused}
-use Rattle.store.specs.Edits.{laid, part}
+use Rattle.layout.proofs.Runs.{data_cells, row_read_refused, row_write_refused}
+use Rattle.store.specs.Edits.{laid, over, overlaid, overlaid_from}
 use Rattle.elements.specs.Rows.{run_found}
 
 -- it begins at an element that has as many from it on
@@ -55,19 +56,8 @@ module _ (ws : List ℕ) (t : Trace) (kind : ℕ) (z : ℤ) (n : ℕ) where
   pub off : (r : Refusal) → Err r ≡ run_found ws t kind z n → Off ws t kind z n r
   off r e = seen (Err r) e
 
-  -- it does not reach the end of the numbers
-  pub run_small : (y : ℕ) → Ok y ≡ run_found ws t kind z n → y + n < 2 ^ 19
-  run_small y e = let x = begun y e in omega (arith, found_small ws t kind z y x.left x.found)
-
--- the word of an item is written, and there is one less to write
-pub one_less : {X : Type 0} (f : X → ℕ) (xs : List X) (k : ℕ) (d : X) → k < length xs → (a : ℕ) (ws : List ℕ)
-    → written (data_cells (a + k) (map f (drop k xs))) ws ≡ written (data_cells (a + (k + 1)) (map f (drop (k + 1) xs))) (set ws (a + k) (f (get_or xs k d)))
-one_less f xs k d h a ws =
-    at_drop_more (λ l. written (data_cells (a + k) (map f l)) ws) xs k d h
-    ∙ ap (λ b. written (data_cells b (map f (drop (k + 1) xs))) (set ws (a + k) (f (get_or xs k d)))) (omega arith)
-
 -- a row laid over the words is each of its words written
-pub laid_written : (a : ℕ) (vs ws : List ℕ) → a + length vs ≤ length ws → laid vs a ws ≡ written (data_cells a vs) ws
+laid_written : (a : ℕ) (vs ws : List ℕ) → a + length vs ≤ length ws → laid vs a ws ≡ written (data_cells a vs) ws
 laid_written a [] ws h = ap (λ k. take a ws ++ drop k ws) (add-zero a) ∙ take-append-drop a ws
 laid_written a (v ∷ vs) ws h =
     let next : a + length (v ∷ vs) ≡ a + 1 + length vs = omega arith in
@@ -79,9 +69,25 @@ laid_written a (v ∷ vs) ws h =
     ∙ ap (λ ys. take (a + 1) (set ws a v) ++ (vs ++ ys)) (sym behind)
     ∙ laid_written (a + 1) vs (set ws a v) (omega (arith, length-set ws a v))
 
--- a row read as a part of the words
-pub part_word : (at n : ℕ) (ws us : List ℕ) → us ≡ part at n ws → (k : ℕ) → k < n → get_or us k 0 ≡ get_or ws (at + k) 0
-part_word at n ws us e k h = ap (λ l. get_or l k 0) e ∙ get_or-take n (drop at ws) k 0 h ∙ get_or-drop at ws k 0
+-- a row that lies within the words is written over them as far as both go, which is all of it
+pub overlaid_written : (a : ℕ) (vs ws : List ℕ) → a + length vs ≤ length ws → overlaid_from vs a ws ≡ written (data_cells a vs) ws
+unfolding over
+overlaid_written a vs ws h =
+    let all : min (length vs) (length (drop a ws)) ≡ length vs = omega (arith, length-drop a ws) in
+    ap (λ n. take a ws ++ (take n vs ++ drop n (drop a ws))) all
+    ∙ ap (λ xs. take a ws ++ (xs ++ drop (length vs) (drop a ws))) (take-length vs)
+    ∙ ap (λ xs. take a ws ++ (vs ++ xs)) (drop-drop (length vs) a ws)
+    ∙ laid_written a vs ws h
+
+pub overlaid_length : (a : ℕ) (vs ws : List ℕ) → length (overlaid_from vs a ws) ≡ length ws
+unfolding over
+overlaid_length a vs ws = simp (length-append, length-take, length-drop) (omega arith)
+
+-- a row that lies within the words is read as they are
+pub overlaid_word : (a : ℕ) (ws xs us : List ℕ) → us ≡ overlaid (drop a ws) xs → a + length xs ≤ length ws
+    → (k : ℕ) → k < length xs → get_or us k 0 ≡ get_or ws (a + k) 0
+unfolding over
+overlaid_word a ws xs us e h k l = ap (λ zs. get_or zs k 0) e ∙ grind (arith, places)
 
 -- Over words that hold together, at a subscript as the code has it.
 module _ (ws : List ℕ) (h : Holds ws) (t : Trace) (kind : ℕ) (i z : ℤ) (q : z ≡ i) where

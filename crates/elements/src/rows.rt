@@ -8,7 +8,7 @@ ghost use Rattle.std.specs.Prelude.{◌≡◌, map, length};
 
 use crate::selection::row;
 use booking::{Kind, Refusal, Trace};
-use store::{Store, put, word};
+use store::{Store, put, read_from, word, write_from};
 
 /// One data element of a block whose type is the number, as an item of the kind.
 pub fn read<S: Store, K: Kind>(
@@ -70,14 +70,7 @@ pub fn read_row<S: Store, K: Kind>(
     ensures list { UnlessGranted result (items.new ≡ items.old) }
 {
     let at = run(store, trace, number, subscript, items.len())?;
-    if at + items.len() as u64 <= store.count() {
-        store.read_items::<K>(at, items);
-        return Ok(());
-    }
-    // Over words that do not hold together a row may reach past the last.
-    for (k, item) in items.iter_mut().enumerate() {
-        *item = K::from_word(word(store, at + k as u64));
-    }
+    read_from::<S, K>(store, at, items);
     Ok(())
 }
 
@@ -94,13 +87,6 @@ pub fn write_row<S: Store, K: Kind>(
     ensures rest { S.Store.rest store.new ≡ S.Store.rest store.old }
 {
     let at = run(store, trace, number, subscript, items.len())?;
-    if at + items.len() as u64 <= store.count() {
-        store.write_items::<K>(at, items);
-        return Ok(());
-    }
-    // Over words that do not hold together a row may reach past the last.
-    for (k, item) in items.iter().enumerate() {
-        put(store, at + k as u64, K::to_word(*item));
-    }
+    write_from::<S, K>(store, at, items);
     Ok(())
 }

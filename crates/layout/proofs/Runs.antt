@@ -1,24 +1,20 @@
 -- A row of data words, written and read.
-use Rattle.std.proofs.Common.{◌≡◌, ℕ, suc, ◌+◌, ◌-◌, ◌^◌, ◌<◌, ◌≤◌, Bool, true, false, cond, not, eqb, ◌⊎◌, List, [], ◌∷◌, ◌++◌, length, get_or, take, drop, ℤ, Ok, Err, Result, sym, refl, ap, ◌∙◌, subst, inl, inr, append_assoc, add-zero, arith, length-append, length-drop, take-append-drop, length-take, ext_get_or}
+use Rattle.std.proofs.Common.{◌≡◌, ℕ, suc, ◌+◌, ◌^◌, ◌<◌, ◌≤◌, true, false, not, ◌⊎◌, List, [], ◌∷◌, ◌++◌, length, get_or, take, drop, ℤ, Ok, sym, refl, ap, ◌∙◌, subst, inl, inr, append_assoc, add-zero, arith, length-append, length-drop, take-append-drop, length-take, ext_get_or}
 use Rattle.std.proofs.lemmas.List.{drop-drop, get_or-drop, get_or-take}
 use Rattle.std.proofs.lemmas.Bool.{or_left, or_right, or_from, eq-eqb, ne_eqb, lt-ltb, le-ltb}
 use Rattle.booking.specs.Bookings.{Done, RowRead, RowWrite, Words, granted, on, refused}
-use Rattle.booking.specs.Traces.{subscripts}
-use Rattle.booking.specs.declared.refusal.Refusal.{Refusal}
 use Rattle.booking.specs.declared.refusal.Refusal.TheVariants.{BadLength}
 use Rattle.booking.specs.declared.trace.Trace.{Trace}
-use Rattle.codeword.specs.Codeword.{unpacked}
-use Rattle.ledger.specs.Doors.{bad_run, element, off}
+use Rattle.ledger.specs.Doors.{bad_run, element}
 use Rattle.ledger.specs.Ledger.{book}
 use Rattle.ledger.specs.Lists.{overwrite}
 use Rattle.layout.specs.Arrangement.{Arrangement, Data}
 use Rattle.layout.specs.Booked.{Booked}
-use Rattle.layout.specs.Elements.{row_chosen, row_found}
+use Rattle.layout.specs.Elements.{row_found}
 use Rattle.layout.specs.Held.{held_trees}
 use Rattle.layout.specs.Holds.{Displays, Holds}
 use Rattle.layout.specs.Rearranged.{data_change, rearranged}
 use Rattle.layout.specs.Sound.{Each, Sound}
-use Rattle.layout.specs.Walks.{and_then, chosen, walked}
 use Rattle.layout.specs.Words.{Cell, back, cells, cells_along, datum, datum_at, label, written}
 use Rattle.layout.proofs.Frame.{cell}
 use Rattle.layout.proofs.Hits.{here, hits}
@@ -27,7 +23,6 @@ use Rattle.layout.proofs.WalkEnd.{along_get, door_open, door_shut, reply}
 use Rattle.layout.proofs.Place.{booked, replied}
 use Rattle.layout.proofs.Rewritten.{rewrote}
 use Rattle.layout.proofs.Rows.{Selected, element_inside, few_words, picked}
-use Rattle.ledger.proofs.Signs.{element_lt}
 
 -- ── Rows of data ───────────────────────────────────────────────────────
 
@@ -130,37 +125,15 @@ module _ (ws : List ℕ) (A : Arrangement) (t : Trace) (kind : ℕ) (i : ℤ) (s
       ∙ ap (λ (z : ℕ). get_or ws z 0) (omega (arith, x.is_at))
       ∙ along_get (λ z v. get_or ws z 0 ≡ v) (x.start + 1) x.words 0 (e + k) (omega (arith, x.is_left)) x.stands.shows.2)))
 
--- ── Where the run lies, over any words ─────────────────────────────────
-
-small_run : (F N k y l : ℕ) (p q r u : Bool) (a b c d : Refusal) → F < 2 ^ 18 → N < 2 ^ 18 → (r ≡ false → k < N)
-    → ◌≡◌ {A = Result (ℕ × ℕ) Refusal} (Ok (y, l)) (cond p (Err a) (cond q (Err b) (and_then (cond r (Err c) (Ok k)) (λ k. cond u (Ok (F + k, N - k)) (Err d))))) → y + l < 2 ^ 19
-small_run F N k y l true q r u a b c d hF hN hk e = let z : ◌≡◌ {A = ℕ} 0 1 = cc in absurd (omega arith)
-small_run F N k y l false true r u a b c d hF hN hk e = let z : ◌≡◌ {A = ℕ} 0 1 = cc in absurd (omega arith)
-small_run F N k y l false false true u a b c d hF hN hk e = let z : ◌≡◌ {A = ℕ} 0 1 = cc in absurd (omega arith)
-small_run F N k y l false false false false a b c d hF hN hk e = let z : ◌≡◌ {A = ℕ} 0 1 = cc in absurd (omega arith)
-small_run F N k y l false false false true a b c d hF hN hk e =
-    let g : ◌≡◌ {A = ℕ × ℕ} (y, l) (F + k, N - k) = cc in
-    omega (arith, hk refl, ap (λ (t : ℕ × ℕ). t.0) g, ap (λ (t : ℕ × ℕ). t.1) g)
-
-row_small : (w kind : ℕ) (i : ℤ) (j y l : ℕ) → Ok (y, l) ≡ row_chosen w kind i j → y + l < 2 ^ 19
-unfolding row_chosen chosen
-row_small w kind i j y l e =
-    small_run (unpacked w).first (unpacked w).length (element (unpacked w).base i) y l (eqb w 0) (unpacked w).r (off (unpacked w).base (unpacked w).length i) (eqb (unpacked w).kind kind)
-    _ _ _ _ (omega arith) (omega arith) (element_lt (unpacked w).base i (unpacked w).length) e
-
-pub found_small : (ws : List ℕ) (t : Trace) (kind : ℕ) (i : ℤ) (y l : ℕ) → Ok (y, l) ≡ row_found ws t kind i → y + l < 2 ^ 19
-unfolding row_found
-found_small ws t kind i y l e = pick (walked ws 1 t.name (subscripts t)) e
-  where
-    pick : (z : Result ℕ Refusal) → Ok (y, l) ≡ and_then z (λ a. row_chosen (get_or ws a 0) kind i (t.depth + 1)) → y + l < 2 ^ 19
-    pick (Ok a) e = row_small (get_or ws a 0) kind i (t.depth + 1) y l e
-    pick (Err r) e = let z : ◌≡◌ {A = ℕ} 0 1 = cc in absurd (omega arith)
-
 -- ── Over words that hold together ──────────────────────────────────────
 
 module _ (ws : List ℕ) (h : Holds ws) (t : Trace) (kind : ℕ) (i z : ℤ) (q : z ≡ i) (y left : ℕ) (e : Ok (y, left) ≡ row_found ws t kind z) where
   abbrev x : Selected ws h.arrangement t kind i y left
   x = picked ws h t kind i z q (Ok (y, left)) e
+
+  pub row_inside : y + left ≤ length ws
+  row_inside =
+      omega (arith, x.stands.fits_in.2, x.is_at, x.is_left, element_inside ws h.arrangement t kind i (few_words ws h t kind i) y left x)
 
   pub row_write_refused : (vs : List ℕ) → (length vs ≡ 0) ⊎ (left < length vs) → Booked ws (on t (RowWrite kind i vs)) (refused BadLength) ws
   row_write_refused vs w =
