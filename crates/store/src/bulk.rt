@@ -1,4 +1,4 @@
-// Many words at once, as far as there are words: past the last, 0 is read and nothing is written.
+// Many words at once, as far as there are words.
 ghost use Rattle.std.specs.Prelude.{◌≡◌, ◌-◌, ◌≤◌, drop, length, map};
 ghost use Rattle.store.specs.Edits.{copied, lifted, overlaid, overlaid_from, zeroed};
 
@@ -24,6 +24,26 @@ pub fn clear<S: Store>(store: &mut S, from: u64, n: u64)
     }
 }
 
+/// Copies the n words from an address on to those from a lower one on, the first first. Past the last word 0 is read, and nothing written.
+pub fn copy_down<S: Store>(store: &mut S, from: u64, to: u64, n: u64)
+    requires { to ≤ from }
+    ensures after { S.Store.words store.new ≡ copied n from to (S.Store.words store.old) }
+    ensures rest { S.Store.rest store.new ≡ S.Store.rest store.old }
+{
+    let there = n.min(left(store, from));
+    store.copy_words(from, to, there);
+    clear(store, to + there, n - there);
+}
+
+/// Copies the n words from an address on up by so many addresses, the last first. Past the last word nothing is written.
+pub fn copy_up<S: Store>(store: &mut S, from: u64, by: u64, n: u64)
+    ensures after { S.Store.words store.new ≡ lifted n from by (S.Store.words store.old) }
+    ensures rest { S.Store.rest store.new ≡ S.Store.rest store.old }
+{
+    let there = n.min(left(store, from.saturating_add(by)));
+    store.lift_words(from, by, there);
+}
+
 /// Copies the words from an address on into a list, each as an item of the kind, as far as both go.
 pub fn read_from<S: Store, K: Kind>(store: &S, from: u64, items: &mut [K::Item])
     ensures { map K.Kind.word items.new ≡ overlaid (drop from (S.Store.words store.now)) (map K.Kind.word items.old) }
@@ -44,26 +64,6 @@ pub fn write_from<S: Store, K: Kind>(store: &mut S, from: u64, items: &[K::Item]
     if n > 0 {
         store.write_items::<K>(from, &items[..n]);
     }
-}
-
-/// Copies the n words from an address on to those from a lower one on, the first first.
-pub fn copy_down<S: Store>(store: &mut S, from: u64, to: u64, n: u64)
-    requires { to ≤ from }
-    ensures after { S.Store.words store.new ≡ copied n from to (S.Store.words store.old) }
-    ensures rest { S.Store.rest store.new ≡ S.Store.rest store.old }
-{
-    let there = n.min(store.count().saturating_sub(from));
-    store.copy_words(from, to, there);
-    clear(store, to + there, n - there);
-}
-
-/// Copies the n words from an address on up by so many addresses, the last first.
-pub fn copy_up<S: Store>(store: &mut S, from: u64, by: u64, n: u64)
-    ensures after { S.Store.words store.new ≡ lifted n from by (S.Store.words store.old) }
-    ensures rest { S.Store.rest store.new ≡ S.Store.rest store.old }
-{
-    let there = n.min(store.count().saturating_sub(from.saturating_add(by)));
-    store.lift_words(from, by, there);
 }
 
 /// Copies the words to the front of a list, as many as both have.
