@@ -48,8 +48,9 @@ pub fn vacate_each<S: Store>(store: &mut S, codes: Range<u64>, levels: u8)
     let _ = release_each(store, codes, levels, progress);
 }
 
-/// The blocks of the array at `at` become gaps, those below first.
+/// The blocks of the array at `at` become gaps, those below first. It is inlined into the loop below, so that a row costs no call.
 #[cycle(release_release_each)]
+#[inline(always)]
 fn release<S: Store>(store: &mut S, at: u64, levels: u8, progress: Progress) -> Progress
     ensures releases { ReleasesWithin levels (S.Store.words store.old) at progress.left progress.last (S.Store.words store.new) result.left result.last }
     ensures count { length (S.Store.words store.new) ≡ length (S.Store.words store.old) }
