@@ -29,6 +29,7 @@ impl Progress {
 }
 
 /// Links the blocks of the array at `at`, of at most `levels` blocks deep, into the chain, and zeros its codeword.
+#[inline(always)]
 pub fn vacate<S: Store>(store: &mut S, at: u64, levels: u8)
     ensures vacates { Releases levels (S.Store.words store.old) at (S.Store.words store.new) }
     ensures count { length (S.Store.words store.new) ≡ length (S.Store.words store.old) }
