@@ -25,16 +25,18 @@ copied_next i from to w ws us e r =
 -- one word more becomes 0, if there is one
 zeroed_next : (ws : List ℕ) (from m : ℕ) → set (zeroed ws from m) (from + m) 0 ≡ zeroed ws from (suc m)
 zeroed_next ws from m =
+    let zs = zeroed ws from m in
     elim (cases_lt (from + m) (length ws)) [
       | inl h ↦
-          let a : min m (length ws - from) ≡ from + m - from = omega arith in
-          let b : from + m + 1 - from ≡ min (suc m) (length ws - from) = omega arith in
-          let next : set (zeroed ws from m) (from + m) 0 ≡ zeros ws from (from + m + 1 - from) =
-              zero_more ws (zeroed ws from m) from (from + m) (ap (zeros ws from) a) (omega arith) h in
-          next ∙ ap (zeros ws from) b
+          let n : ℕ = from + m + 1 - from in
+          let here : zs ≡ zeros ws from (from + m - from) = ap (zeros ws from) (omega arith) in
+          let next : set zs (from + m) 0 ≡ zeros ws from n = zero_more ws zs from (from + m) here (omega arith) h in
+          let is : n ≡ min (suc m) (length ws - from) = omega arith in
+          next ∙ ap (zeros ws from) is
       | inr h ↦
-          let c : min m (length ws - from) ≡ min (suc m) (length ws - from) = omega arith in
-          set_past _ _ 0 (omega (arith, length_zeroed ws from m)) ∙ ap (zeros ws from) c
+          let stays : set zs (from + m) 0 ≡ zs = set_past zs (from + m) 0 (omega (arith, length_zeroed ws from m)) in
+          let is : min m (length ws - from) ≡ min (suc m) (length ws - from) = omega arith in
+          stays ∙ ap (zeros ws from) is
     ]
 
 -- of m words past the last, 0 is copied
@@ -43,7 +45,7 @@ unfolding copied
 copied_zeros zero a from to ws h =
     let us = copied a from to ws in
     let is : 0 + a ≡ a = omega arith in
-    ap (λ (i : ℕ). copied i from to ws) is ∙ zero_none us (to + a) ∙ ap (zeros us (to + a)) (omega arith)
+    ap (λ (i : ℕ). copied i from to ws) is ∙ zero_none us (to + a) (min zero (length us - (to + a))) (omega arith)
 copied_zeros (suc m) a from to ws h =
     let here : to + (m + a) ≡ to + a + m = omega arith in
     let one : suc m + a ≡ suc (m + a) = omega arith in
@@ -62,10 +64,8 @@ copied_past n a from to ws us vs e u v =
           v ∙ ap (λ (zs : List ℕ). zeroed zs (to + a) (n - a)) u ∙ sym (copied_zeros (n - a) a from to ws (omega (arith, e)))
           ∙ ap (λ (i : ℕ). copied i from to ws) all
       | inr h ↦
-          let none : n - a ≡ 0 = omega arith in
           let same : a ≡ n = omega (arith, e) in
-          v ∙ ap (zeroed us (to + a)) none ∙ ap (zeros us (to + a)) (omega arith) ∙ sym (zero_none us (to + a)) ∙ u
-          ∙ ap (λ (i : ℕ). copied i from to ws) same
+          v ∙ sym (zero_none us (to + a) (min (n - a) (length us - (to + a))) (omega arith)) ∙ u ∙ ap (λ (i : ℕ). copied i from to ws) same
     ]
 
 pub length_lifted : (n from by : ℕ) (ws : List ℕ) → length (lifted n from by ws) ≡ length ws
