@@ -44,7 +44,11 @@ use Rattle.placement.proofs.Moves.{length_renewed}
 use Rattle.insertion.specs.Openings.{grown_words, longer, opened}
 use Rattle.insertion.specs.Raises.{Raises}
 use Rattle.insertion.proofs.Again.{begins, besides, high, opens_again}
-use Rattle.insertion.proofs.Grown.{codes_away, codes_kept, codes_shown, data_away, data_kept, data_shown, gave_way, length_opened, once, opened_is}
+use Rattle.insertion.proofs.GivesWay.{gave_way, once}
+use Rattle.insertion.proofs.OpenedUp.{length_opened, opened_is}
+use Rattle.insertion.proofs.RowGrown.{data_away, data_kept, data_shown}
+use Rattle.insertion.proofs.TableApart.{codes_away}
+use Rattle.insertion.proofs.TableGrown.{codes_kept, codes_shown}
 use Rattle.insertion.proofs.Opened.{Open, Opens, Shape, none_refused, opened_so, row, some_asks_room, table}
 
 -- ── The block grows ────────────────────────────────────────────────────
@@ -124,7 +128,7 @@ module _ (vs : List ℕ) (C : Arrangement) (shown : Displays vs C) (t : Trace) (
             (omega (arith, hits_cells y (suc depth) at (Codes s b ps'), covers_yes y s (length ps' + 1) (omega arith) (omega (arith, m)))),
       ) in
       let one_each = one at depth spot st in
-      let away = codes_away vs few depth s at k n b ps le st.shows st.fits_in st.inside fit one_each in
+      let away = codes_away depth s at k n b ps one_each in
       let g = st.fits_in in (
         (omega arith, omega arith, omega arith),
         λ us is.

@@ -3,7 +3,11 @@ pub mod Renames
 pub mod Raised
 pub mod Inserted
 pub mod Renewed
-pub mod Grown
+pub mod GivesWay
+pub mod OpenedUp
+pub mod RowGrown
+pub mod TableApart
+pub mod TableGrown
 pub mod Opened
 pub mod Again
 pub mod Inserts
