@@ -7,42 +7,42 @@ use Rattle.std.proofs.lemmas.Bool.{false≢true, eq-eqb, eqb-false, eqb-true}
 use Rattle.std.proofs.lemmas.List.{set_past}
 use Rattle.std.proofs.lemmas.List.FromFn.{length-map-range_with_len, get_or-map-range_with_len}
 use Rattle.std.proofs.lemmas.Nat.Bits.{bit_at_or, bit_at_xor, bit_at-pow_other, bit_at-pow_same, bit_at-zero, same_from_bits_below}
-use Rattle.judge.specs.Marks.{bit_at, flags, Down, Zeros}
+use Rattle.judge.specs.Marks.{has_bit, flags, Down, Zeros}
 
 -- a bit is set, or turned
-pub or_here : (w k : ℕ) → bit_at (bit_or w (2 ^ k)) k ≡ true
+pub or_here : (w k : ℕ) → has_bit (bit_or w (2 ^ k)) k ≡ true
 or_here w k = eq-eqb (bit_or w (2 ^ k) / 2 ^ k % 2) 1 (omega (arith, bit_at_or w (2 ^ k) k, bit_at-pow_same k))
 
-pub or_there : (w k j : ℕ) → (j ≡ k → ⊥) → bit_at (bit_or w (2 ^ k)) j ≡ bit_at w j
+pub or_there : (w k j : ℕ) → (j ≡ k → ⊥) → has_bit (bit_or w (2 ^ k)) j ≡ has_bit w j
 or_there w k j n =
     let e : bit_or w (2 ^ k) / 2 ^ j % 2 ≡ w / 2 ^ j % 2 = omega (arith, bit_at_or w (2 ^ k) j, bit_at-pow_other k j n) in
     ap (λ (x : ℕ). eqb x 1) e
 
-pub xor_here : (w k : ℕ) → bit_at w k ≡ true → bit_at (bit_xor w (2 ^ k)) k ≡ false
+pub xor_here : (w k : ℕ) → has_bit w k ≡ true → has_bit (bit_xor w (2 ^ k)) k ≡ false
 xor_here w k h =
     let o : w / 2 ^ k % 2 ≡ 1 = eqb-true (w / 2 ^ k % 2) 1 h in
     let e : bit_xor w (2 ^ k) / 2 ^ k % 2 ≡ 0 = omega (arith, bit_at_xor w (2 ^ k) k, bit_at-pow_same k) in
     ap (λ (x : ℕ). eqb x 1) e
 
-pub xor_there : (w k j : ℕ) → (j ≡ k → ⊥) → bit_at (bit_xor w (2 ^ k)) j ≡ bit_at w j
+pub xor_there : (w k j : ℕ) → (j ≡ k → ⊥) → has_bit (bit_xor w (2 ^ k)) j ≡ has_bit w j
 xor_there w k j n =
     let e : bit_xor w (2 ^ k) / 2 ^ j % 2 ≡ w / 2 ^ j % 2 = omega (arith, bit_at_xor w (2 ^ k) j, bit_at-pow_other k j n) in
     ap (λ (x : ℕ). eqb x 1) e
 
 -- ── The list of marks ─────────────────────────────────────────────────
 
-no_bit : (w k : ℕ) → w ≡ 0 → bit_at w k ≡ false
+no_bit : (w k : ℕ) → w ≡ 0 → has_bit w k ≡ false
 no_bit w k e = ap (λ (x : ℕ). eqb (x / 2 ^ k % 2) 1) e ∙ ap (λ (x : ℕ). eqb x 1) (bit_at-zero k)
 
 pub length_flags : (ws : List ℕ) → length (flags ws) ≡ 64 * length ws
 unfolding flags
-length_flags ws = length-map-range_with_len (λ s. bit_at (get_or ws (s / 64) 0) (s % 64)) 0 (64 * length ws)
+length_flags ws = length-map-range_with_len (λ s. has_bit (get_or ws (s / 64) 0) (s % 64)) 0 (64 * length ws)
 
-pub getD_flags : (ws : List ℕ) (s : ℕ) → get_or (flags ws) s false ≡ bit_at (get_or ws (s / 64) 0) (s % 64)
+pub getD_flags : (ws : List ℕ) (s : ℕ) → get_or (flags ws) s false ≡ has_bit (get_or ws (s / 64) 0) (s % 64)
 unfolding flags
 getD_flags ws s =
     elim (dec_lt s (64 * length ws)) [
-      | yes l ↦ get_or-map-range_with_len (λ s. bit_at (get_or ws (s / 64) 0) (s % 64)) 0 (64 * length ws) s s false l (omega arith)
+      | yes l ↦ get_or-map-range_with_len (λ s. has_bit (get_or ws (s / 64) 0) (s % 64)) 0 (64 * length ws) s s false l (omega arith)
       | no l ↦
           let n : length (flags ws) ≤ s = omega (arith, length_flags ws) in
           let m : length ws ≤ s / 64 = omega arith in
@@ -63,8 +63,8 @@ set_past_marks ws s b h = sym (set_past (flags ws) s b (omega (arith, length_fla
 pub zeros_down : (ws : List ℕ) → Zeros ws → Down (flags ws)
 zeros_down ws h s = getD_flags ws s ∙ no_bit (get_or ws (s / 64) 0) (s % 64) (h (s / 64))
 
-pub set_flags : (ws : List ℕ) (s w : ℕ) (b : Bool) → s < 64 * length ws → bit_at w (s % 64) ≡ b
-    → ((j : ℕ) → (j ≡ s % 64 → ⊥) → bit_at w j ≡ bit_at (get_or ws (s / 64) 0) j)
+pub set_flags : (ws : List ℕ) (s w : ℕ) (b : Bool) → s < 64 * length ws → has_bit w (s % 64) ≡ b
+    → ((j : ℕ) → (j ≡ s % 64 → ⊥) → has_bit w j ≡ has_bit (get_or ws (s / 64) 0) j)
     → flags (set ws (s / 64) w) ≡ set (flags ws) s b
 set_flags ws s w b l h o =
     ext_get_or false (flags (set ws (s / 64) w)) (set (flags ws) s b)
@@ -80,7 +80,7 @@ set_flags ws s w b l h o =
         let m : s < length (flags ws) = omega (arith, length_flags ws) in
         ap (λ (k : ℕ). get_or (flags (set ws (s / 64) w)) k false) e
         ∙ getD_flags (set ws (s / 64) w) s
-        ∙ ap (λ (x : ℕ). bit_at x (s % 64)) (get_or-set_same ws (s / 64) w 0 r)
+        ∙ ap (λ (x : ℕ). has_bit x (s % 64)) (get_or-set_same ws (s / 64) w 0 r)
         ∙ h
         ∙ sym (ap (λ (k : ℕ). get_or (set (flags ws) s b) k false) e ∙ get_or-set_same (flags ws) s b false m)
 
@@ -93,17 +93,17 @@ set_flags ws s w b l h o =
         ]
         ∙ sym (get_or-set_other (flags ws) s i b false n ∙ getD_flags ws i)
       where
-        apart : (i / 64 ≡ s / 64 → ⊥) → bit_at (get_or (set ws (s / 64) w) (i / 64) 0) (i % 64) ≡ bit_at (get_or ws (i / 64) 0) (i % 64)
-        apart z = ap (λ (x : ℕ). bit_at x (i % 64)) (get_or-set_other ws (s / 64) (i / 64) w 0 z)
+        apart : (i / 64 ≡ s / 64 → ⊥) → has_bit (get_or (set ws (s / 64) w) (i / 64) 0) (i % 64) ≡ has_bit (get_or ws (i / 64) 0) (i % 64)
+        apart z = ap (λ (x : ℕ). has_bit x (i % 64)) (get_or-set_other ws (s / 64) (i / 64) w 0 z)
 
-        within : i / 64 ≡ s / 64 → bit_at (get_or (set ws (s / 64) w) (i / 64) 0) (i % 64) ≡ bit_at (get_or ws (i / 64) 0) (i % 64)
+        within : i / 64 ≡ s / 64 → has_bit (get_or (set ws (s / 64) w) (i / 64) 0) (i % 64) ≡ has_bit (get_or ws (i / 64) 0) (i % 64)
         within z =
             let r : s / 64 < length ws = omega arith in
             let d : i % 64 ≡ s % 64 → ⊥ = λ (q : i % 64 ≡ s % 64). n (omega arith) in
-            ap (λ (k : ℕ). bit_at (get_or (set ws (s / 64) w) k 0) (i % 64)) z
-            ∙ ap (λ (x : ℕ). bit_at x (i % 64)) (get_or-set_same ws (s / 64) w 0 r)
+            ap (λ (k : ℕ). has_bit (get_or (set ws (s / 64) w) k 0) (i % 64)) z
+            ∙ ap (λ (x : ℕ). has_bit x (i % 64)) (get_or-set_same ws (s / 64) w 0 r)
             ∙ o (i % 64) d
-            ∙ ap (λ (k : ℕ). bit_at (get_or ws k 0) (i % 64)) (sym z)
+            ∙ ap (λ (k : ℕ). has_bit (get_or ws k 0) (i % 64)) (sym z)
 
 -- ── No mark is up ─────────────────────────────────────────────────────
 
@@ -112,8 +112,8 @@ down_zero ws k fit h =
     same_from_bits_below 64 (get_or ws k 0) 0 fit (omega arith) (λ j m.
     let q : (64 * k + j) / 64 ≡ k = omega arith in
     let r : (64 * k + j) % 64 ≡ j = omega arith in
-    let b : bit_at (get_or ws k 0) j ≡ false =
-    sym (getD_flags ws (64 * k + j) ∙ ap (λ (x : ℕ). bit_at (get_or ws x 0) ((64 * k + j) % 64)) q ∙ ap (bit_at (get_or ws k 0)) r)
+    let b : has_bit (get_or ws k 0) j ≡ false =
+    sym (getD_flags ws (64 * k + j) ∙ ap (λ (x : ℕ). has_bit (get_or ws x 0) ((64 * k + j) % 64)) q ∙ ap (has_bit (get_or ws k 0)) r)
     ∙ h (64 * k + j) in
     let n : get_or ws k 0 / 2 ^ j % 2 ≡ 1 → ⊥ = eqb-false (get_or ws k 0 / 2 ^ j % 2) 1 b in
     omega (arith, bit_at-zero j))

@@ -1,5 +1,5 @@
 -- A codeword passes exactly when it shows a placed tree whose blocks lie in S, and then the marks of the tree's pieces are taken down.
-use Rattle.std.proofs.Common.{◌≡◌, ℕ, zero, suc, ◌+◌, ◌-◌, ◌^◌, ◌<◌, ◌≤◌, Bool, true, false, cond, List, [], ◌∷◌, map, length, get_or, set, ℤ, Some, None, Option, sym, refl, ap, ◌∙◌, subst, inl, inr, arith}
+use Rattle.std.proofs.Common.{◌≡◌, ℕ, zero, suc, ◌+◌, ◌-◌, ◌^◌, ◌<◌, ◌≤◌, Bool, true, false, cond, List, [], ◌∷◌, map, length, get_or, set, ℤ, Some, None, Option, option_and_then, sym, refl, ap, ◌∙◌, subst, inl, inr, arith}
 use Rattle.std.proofs.lemmas.Bool.{cases_eq}
 use Rattle.std.proofs.lemmas.Option.{none-some}
 use native.Mathlib.Decide.{dec_le}
@@ -12,7 +12,7 @@ use Rattle.layout.specs.Sound.{Each}
 use Rattle.layout.specs.Words.{labelling}
 use Rattle.layout.proofs.Bridge.{Fits}
 use Rattle.layout.proofs.Cover.{each-++}
-use Rattle.judge.specs.Arrays.{and_then, coded, count, first, is_label, run, visit, visit_block}
+use Rattle.judge.specs.Arrays.{coded, count, first, is_label, run, visit, visit_block}
 use Rattle.judge.specs.Tiles.{tile_size}
 use Rattle.judge.proofs.Labels.{Label, label_fields, label_yes}
 use Rattle.judge.proofs.Starts.{Sized, clears, clears-++}
@@ -20,7 +20,7 @@ use Rattle.judge.proofs.Steps.{block_codes, block_data, block_unlabelled, block_
 
 -- ── Runs ──────────────────────────────────────────────────────────────
 
-same_then : {X Y : Type 0} (o : Option X) (f g : X → Option Y) → ((x : X) → f x ≡ g x) → and_then o f ≡ and_then o g
+same_then : {X Y : Type 0} (o : Option X) (f g : X → Option Y) → ((x : X) → f x ≡ g x) → option_and_then f o ≡ option_and_then g o
 same_then None f g h = refl
 same_then (Some x) f g h = h x
 
@@ -30,11 +30,11 @@ module _ {X : Type 0} (f : ℕ → List Bool → Option (List Bool)) (h : X → 
   unfolding run
   run_clears one a [] ms p q = refl
   run_clears one a (x ∷ xs) ms p q =
-      ap (λ (o : Option (List Bool)). and_then o (run f (a + 1) (length xs))) (one a x ms p.0 q.0)
+      ap (λ (o : Option (List Bool)). option_and_then (run f (a + 1) (length xs)) o) (one a x ms p.0 q.0)
       ∙ same_then (clears (h x) ms) (run f (a + 1) (length xs)) (clears (concat (map h xs))) (λ ns. run_clears one (a + 1) xs ns p.1 q.1)
       ∙ sym (clears-++ (h x) (concat (map h xs)) ms)
 
-  then_some : {X Y : Type 0} (o : Option X) (g : X → Option Y) (y : Y) → and_then o g ≡ Some y → (x : X) × (o ≡ Some x) × (g x ≡ Some y)
+  then_some : {X Y : Type 0} (o : Option X) (g : X → Option Y) (y : Y) → option_and_then g o ≡ Some y → (x : X) × (o ≡ Some x) × (g x ≡ Some y)
   then_some None g y e = absurd (none-some y e)
   then_some (Some x) g y e = (x, refl, e)
 

@@ -3,7 +3,7 @@ use Rattle.std.proofs.Common.{◌≡◌, ℕ, ◌^◌, ◌<◌, ◌≤◌, Bool,
 use Rattle.std.proofs.lemmas.Option.{none-some, same_Some}
 use Rattle.std.proofs.lemmas.Bool.{cond-false, cond-true}
 use Rattle.std.proofs.lemmas.Bool.Decides.{nat_tests}
-use Rattle.judge.specs.Tiles.{gap_at, head_of, high, is_gap, low}
+use Rattle.judge.specs.Tiles.{gap_head, head_of, high, is_gap, low}
 use Rattle.codeword.specs.declared.head.Head.{Head}
 
 -- one that says what w says
@@ -51,14 +51,14 @@ head_some w h e =
     (grind (arith, nat_tests), p.1)
 
 module _ (ws : List ℕ) (x left : ℕ) where
-  pub no_gap : None ≡ gap_at ws x left → is_gap ws x left ≡ false
+  pub no_gap : None ≡ gap_head ws x left → is_gap ws x left ≡ false
   no_gap e = told_none (is_gap ws x left) (get_or ws x 0) e
 
-  pub some_gap : (h : Head) → Some h ≡ gap_at ws x left → (is_gap ws x left ≡ true) × Says h (get_or ws x 0)
+  pub some_gap : (h : Head) → Some h ≡ gap_head ws x left → (is_gap ws x left ≡ true) × Says h (get_or ws x 0)
   some_gap h e = told_some (is_gap ws x left) (get_or ws x 0) h e
 
-  pub gap_none : is_gap ws x left ≡ false → None ≡ gap_at ws x left
+  pub gap_none : is_gap ws x left ≡ false → None ≡ gap_head ws x left
   gap_none e = tells_none (is_gap ws x left) (get_or ws x 0) e
 
-  pub gap_some : (h : Head) → is_gap ws x left ≡ true → Says h (get_or ws x 0) → Some h ≡ gap_at ws x left
+  pub gap_some : (h : Head) → is_gap ws x left ≡ true → Says h (get_or ws x 0) → Some h ≡ gap_head ws x left
   gap_some h e s = tells_some (is_gap ws x left) (get_or ws x 0) h e s

@@ -1,5 +1,5 @@
 -- Marks at the starts of pieces: taken down one by one, with none left over, exactly when the pieces are the marked ones in some order.
-use Rattle.std.proofs.Common.{◌≡◌, ℕ, ◌+◌, ◌<◌, ◌≤◌, Bool, true, false, cond, eqb, List, [], ◌∷◌, ◌++◌, map, length, get_or, set, Some, None, Option, sym, refl, ap, ◌∙◌, arith, get_or-set_other, get_or-set_same}
+use Rattle.std.proofs.Common.{◌≡◌, ℕ, ◌+◌, ◌<◌, ◌≤◌, Bool, true, false, cond, List, [], ◌∷◌, ◌++◌, map, length, get_or, set, Some, None, Option, option_and_then, sym, refl, ap, ◌∙◌, arith, get_or-set_other, get_or-set_same}
 use mathlib.Core.List.Permᴰ
 use mathlib.Core.List.{Permᴰ}
 use native.Mathlib.Decide.{dec_lt}
@@ -9,28 +9,25 @@ use Rattle.std.proofs.lemmas.Bool.Decides.{nat_tests}
 use Rattle.std.proofs.lemmas.Option.{none-some, same_Some}
 use Rattle.layout.specs.Arrangement.{Piece}
 use Rattle.layout.specs.Sound.{Each}
+use Rattle.layout.proofs.Hits.{here, here_no}
 use Rattle.layout.proofs.Order.{Tile, idle, size, used, useds}
 use Rattle.ledger.specs.Trees.{sum}
-use Rattle.judge.specs.Arrays.{and_then}
 use Rattle.judge.specs.Marks.{Down}
 
 abbrev pub clears : List Piece → List Bool → Option (List Bool)
 clears [] ms = Some ms
 clears (p ∷ ps) ms = cond (get_or ms p.start false) (clears ps (set ms p.start false)) None
 
-pub clears-++ : (xs ys : List Piece) (ms : List Bool) → clears (xs ++ ys) ms ≡ and_then (clears xs ms) (clears ys)
+pub clears-++ : (xs ys : List Piece) (ms : List Bool) → clears (xs ++ ys) ms ≡ option_and_then (clears ys) (clears xs ms)
 clears-++ [] ys ms = refl
 clears-++ (x ∷ xs) ys ms = go (clears-++ xs ys (set ms x.start false)) (get_or ms x.start false)
   where
-    go : clears (xs ++ ys) (set ms x.start false) ≡ and_then (clears xs (set ms x.start false)) (clears ys)
-        → (b : Bool) → cond b (clears (xs ++ ys) (set ms x.start false)) None ≡ and_then (cond b (clears xs (set ms x.start false)) None) (clears ys)
+    go : clears (xs ++ ys) (set ms x.start false) ≡ option_and_then (clears ys) (clears xs (set ms x.start false))
+        → (b : Bool) → cond b (clears (xs ++ ys) (set ms x.start false)) None ≡ option_and_then (clears ys) (cond b (clears xs (set ms x.start false)) None)
     go r true = r
     go r false = refl
 
 -- ── How often a start occurs ──────────────────────────────────────────
-
-abbrev pub here : ℕ → ℕ → ℕ
-here s a = cond (eqb a s) 1 0
 
 abbrev pub starts : ℕ → List Piece → ℕ
 starts s [] = 0
@@ -43,11 +40,8 @@ flag b = cond b 1 0
 abbrev pub Marked : List Piece → List Bool → Type 0
 Marked ps ms = (s : ℕ) → starts s ps ≡ flag (get_or ms s false)
 
-pub here_yes : (s a : ℕ) → a ≡ s → here s a ≡ 1
-here_yes s a e = grind (arith, nat_tests)
-
-pub here_no : (s a : ℕ) → (a ≡ s → ⊥) → here s a ≡ 0
-here_no s a e = grind (arith, nat_tests)
+pub here_at : (s a : ℕ) → a ≡ s → here s a ≡ 1
+here_at s a e = grind (arith, nat_tests)
 
 flag_one : (b : Bool) → 1 ≤ flag b → b ≡ true
 flag_one true h = refl
@@ -83,7 +77,7 @@ cleared us vs ms s m h e t =
     same q =
         let a : starts t us ≡ flag (get_or ms t false) = m t in
         let b : starts t us ≡ here t s + starts t vs = e t in
-        let z : here t s ≡ 1 = here_yes t s (sym q) in
+        let z : here t s ≡ 1 = here_at t s (sym q) in
         let w : flag (get_or ms t false) ≡ 1 = ap flag (ap (λ (k : ℕ). get_or ms k false) q ∙ h) in
         let p : starts t vs ≡ 0 = omega (arith, a, b, z, w) in
         p ∙ ap flag (sym (ap (λ (k : ℕ). get_or (set ms s false) k false) q ∙ get_or-set_same ms s false false (in_range ms s h)))
@@ -93,7 +87,7 @@ pub clears_all : (ps : List Piece) (ms : List Bool) → Marked ps ms
 clears_all [] ms m = (ms, refl, λ s. flag_none (get_or ms s false) (sym (m s)))
 clears_all (p ∷ ps) ms m =
     let b : get_or ms p.start false ≡ true =
-    flag_one (get_or ms p.start false) (omega (arith, m p.start, here_yes p.start p.start refl)) in
+    flag_one (get_or ms p.start false) (omega (arith, m p.start, here_at p.start p.start refl)) in
     let r = clears_all ps (set ms p.start false) (cleared (p ∷ ps) ps ms p.start m b (λ t. refl)) in
     (r.0, ap (λ (q : Bool). cond q (clears ps (set ms p.start false)) None) b ∙ r.1, r.2)
 
@@ -144,7 +138,7 @@ module _ (f : ℕ → ℕ) where
   clears_perm [] [] ms ms' m e k c z = Permᴰ.nil
   clears_perm [] (u ∷ us) ms ms' m e k c z =
       let b : get_or ms u.start false ≡ false = ap (λ (x : List Bool). get_or x u.start false) (same_Some ms ms' c) ∙ z u.start in
-      absurd (omega (arith, m u.start, here_yes u.start u.start refl, ap flag b))
+      absurd (omega (arith, m u.start, here_at u.start u.start refl, ap flag b))
   clears_perm (p ∷ ps) us ms ms' m e k c z =
       go (λ vs n f d. clears_perm ps vs (set ms p.start false) ms' n f k.1 d z) (get_or ms p.start false) refl
     where
@@ -190,7 +184,7 @@ marks_made x (used k ∷ ts) ms n l d s =
         omega (
           arith,
           r,
-          here_yes s x (sym q),
+          here_at s x (sym q),
           ap flag (ap (λ (j : ℕ). get_or (set ms x true) j false) q ∙ get_or-set_same ms x true false low),
           ap flag (d s (omega arith)),
         )

@@ -1,12 +1,12 @@
 -- One turn of each loop.
-use Rattle.std.proofs.Common.{◌≡◌, ℕ, zero, suc, ◌+◌, ◌-◌, ◌^◌, ◌<◌, ◌≤◌, Bool, true, false, cond, ◌&&◌, eqb, List, length, get_or, set, Some, None, Option, sym, refl, ap, ◌∙◌, arith}
+use Rattle.std.proofs.Common.{◌≡◌, ℕ, zero, suc, ◌+◌, ◌-◌, ◌^◌, ◌<◌, ◌≤◌, Bool, true, false, cond, ◌&&◌, eqb, List, length, get_or, set, Some, None, Option, option_and_then, sym, refl, ap, ◌∙◌, arith}
 use Rattle.std.proofs.lemmas.Bool.Decides.{nat_tests}
 use Rattle.codeword.specs.Codeword.{field}
-use Rattle.judge.specs.Arrays.{and_then, coded, count, first, is_label, run, visit, visit_block}
-use Rattle.judge.specs.Tiles.{high, is_blank, is_gap, low, outcome, scan, tile_size}
+use Rattle.judge.specs.Arrays.{coded, count, first, is_label, run, visit, visit_block}
+use Rattle.judge.specs.Tiles.{high, is_blank, is_gap, low, outcome, tiled_from, tile_size}
 
 pub run_more : (f : ℕ → List Bool → Option (List Bool)) (i e : ℕ) (ms : List Bool) → i < e
-    → run f i (e - i) ms ≡ and_then (f i ms) (run f (i + 1) (e - (i + 1)))
+    → run f i (e - i) ms ≡ option_and_then (run f (i + 1) (e - (i + 1))) (f i ms)
 unfolding run
 run_more f i e ms h =
     let p : e - i ≡ suc (e - (i + 1)) = omega arith in
@@ -20,28 +20,28 @@ run_end f i e ms h =
 
 -- one tile
 pub scan_gap : (k : ℕ) (ws : List ℕ) (x next left : ℕ) (ms : List Bool) → x < length ws → x ≡ next → is_gap ws x left ≡ true
-    → scan (suc k) ws x next left ms ≡ scan k ws (x + low (get_or ws x 0)) (high (get_or ws x 0)) (left - low (get_or ws x 0)) ms
-unfolding scan
+    → tiled_from (suc k) ws x next left ms ≡ tiled_from k ws (x + low (get_or ws x 0)) (high (get_or ws x 0)) (left - low (get_or ws x 0)) ms
+unfolding tiled_from
 scan_gap k ws x next left ms h e g = grind (arith, nat_tests)
 
 pub scan_no_gap : (k : ℕ) (ws : List ℕ) (x next left : ℕ) (ms : List Bool) → x < length ws → x ≡ next → is_gap ws x left ≡ false
-    → scan (suc k) ws x next left ms ≡ None
-unfolding scan
+    → tiled_from (suc k) ws x next left ms ≡ None
+unfolding tiled_from
 scan_no_gap k ws x next left ms h e g = grind (arith, nat_tests)
 
 pub scan_block : (k : ℕ) (ws : List ℕ) (x next left : ℕ) (ms : List Bool) → x < length ws → (x ≡ next → ⊥) → tile_size ws x ≤ length ws - x
-    → scan (suc k) ws x next left ms ≡ scan k ws (x + tile_size ws x) next left (set ms x true)
-unfolding scan
+    → tiled_from (suc k) ws x next left ms ≡ tiled_from k ws (x + tile_size ws x) next left (set ms x true)
+unfolding tiled_from
 scan_block k ws x next left ms h e g = grind (arith, nat_tests)
 
 pub scan_no_block : (k : ℕ) (ws : List ℕ) (x next left : ℕ) (ms : List Bool) → x < length ws → (x ≡ next → ⊥) → length ws - x < tile_size ws x
-    → scan (suc k) ws x next left ms ≡ None
-unfolding scan
+    → tiled_from (suc k) ws x next left ms ≡ None
+unfolding tiled_from
 scan_no_block k ws x next left ms h e g = grind (arith, nat_tests)
 
 pub scan_end : (k : ℕ) (ws : List ℕ) (x next left : ℕ) (ms : List Bool) → length ws ≤ x
-    → scan (suc k) ws x next left ms ≡ outcome (eqb next 0 && eqb left 0) ms
-unfolding scan
+    → tiled_from (suc k) ws x next left ms ≡ outcome (eqb next 0 && eqb left 0) ms
+unfolding tiled_from
 scan_end k ws x next left ms h = grind (arith, nat_tests)
 
 -- one codeword
@@ -88,21 +88,21 @@ module _ (f : ℕ → List Bool → Option (List Bool)) (ws : List ℕ) (a : ℕ
 -- the same, where the fuel suffices for each word that is left
 pub scan_on_gap : (k : ℕ) (ws : List ℕ) (x next left : ℕ) (ms : List Bool) (n g : ℕ) → x < length ws → length ws - x ≤ k → x ≡ next
     → is_gap ws x left ≡ true → n ≡ low (get_or ws x 0) → g ≡ high (get_or ws x 0)
-    → scan (suc (k - 1)) ws (x + n) g (left - n) ms ≡ scan (suc k) ws x next left ms
+    → tiled_from (suc (k - 1)) ws (x + n) g (left - n) ms ≡ tiled_from (suc k) ws x next left ms
 scan_on_gap k ws x next left ms n g h f e y en eg =
     let p : suc (k - 1) ≡ k = omega arith in
-    ap (λ (j : ℕ). scan j ws (x + n) g (left - n) ms) p
-    ∙ ap (λ (j : ℕ). scan k ws (x + j) g (left - j) ms) en
-    ∙ ap (λ (j : ℕ). scan k ws (x + low (get_or ws x 0)) j (left - low (get_or ws x 0)) ms) eg
+    ap (λ (j : ℕ). tiled_from j ws (x + n) g (left - n) ms) p
+    ∙ ap (λ (j : ℕ). tiled_from k ws (x + j) g (left - j) ms) en
+    ∙ ap (λ (j : ℕ). tiled_from k ws (x + low (get_or ws x 0)) j (left - low (get_or ws x 0)) ms) eg
     ∙ sym (scan_gap k ws x next left ms h e y)
 
 pub scan_on_block : (k : ℕ) (ws : List ℕ) (x next left : ℕ) (ms : List Bool) (n : ℕ) → x < length ws → length ws - x ≤ k → (x ≡ next → ⊥)
     → n ≡ tile_size ws x → n ≤ length ws - x
-    → scan (suc (k - 1)) ws (x + n) next left (set ms x true) ≡ scan (suc k) ws x next left ms
+    → tiled_from (suc (k - 1)) ws (x + n) next left (set ms x true) ≡ tiled_from (suc k) ws x next left ms
 scan_on_block k ws x next left ms n h f e s g =
     let p : suc (k - 1) ≡ k = omega arith in
-    ap (λ (j : ℕ). scan (suc (k - 1)) ws (x + j) next left (set ms x true)) s
-    ∙ ap (λ (j : ℕ). scan j ws (x + tile_size ws x) next left (set ms x true)) p
+    ap (λ (j : ℕ). tiled_from (suc (k - 1)) ws (x + j) next left (set ms x true)) s
+    ∙ ap (λ (j : ℕ). tiled_from j ws (x + tile_size ws x) next left (set ms x true)) p
     ∙ sym (scan_block k ws x next left ms h e (omega arith))
 
 module _ (ws : List ℕ) (x left : ℕ) where
@@ -144,6 +144,6 @@ pub size_told : (ws : List ℕ) (x : ℕ) {n : ℕ} → n ≡ 1 + field 18 18 (g
 unfolding tile_size
 size_told ws x e = e
 
-pub scan_zero : (ws : List ℕ) (x next left : ℕ) (ms : List Bool) → scan zero ws x next left ms ≡ None
-unfolding scan
+pub scan_zero : (ws : List ℕ) (x next left : ℕ) (ms : List Bool) → tiled_from zero ws x next left ms ≡ None
+unfolding tiled_from
 scan_zero ws x next left ms = refl

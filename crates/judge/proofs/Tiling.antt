@@ -9,7 +9,7 @@ use Rattle.layout.specs.Words.{first_of, total}
 use Rattle.layout.proofs.Tiles.{first_from}
 use Rattle.layout.proofs.Order.{Tile, idle, idles, size, used, useds}
 use Rattle.ledger.specs.Trees.{sum}
-use Rattle.judge.specs.Tiles.{high, is_blank, is_gap, low, outcome, scan, tile_size}
+use Rattle.judge.specs.Tiles.{high, is_blank, is_gap, low, outcome, tiled_from, tile_size}
 use Rattle.judge.proofs.Blanks.{blank_zeros, zeros_blank}
 use Rattle.judge.proofs.Steps.{scan_gap, scan_no_gap, scan_block, scan_no_block, scan_end, gap_yes, gap_size, size_pos, scan_zero}
 use Rattle.judge.proofs.Starts.{mark_all, Sized}
@@ -31,11 +31,11 @@ ended next left ms ms' h = go (eqb next 0 && eqb left 0) refl
     go true q = (grind (arith, nat_tests), grind (arith, nat_tests), same_Some ms ms' (sym (ap (λ (x : Bool). outcome x ms) q) ∙ h))
     go false q = absurd (none-some ms' (sym (ap (λ (x : Bool). outcome x ms) q) ∙ h))
 
-pub scan_walks : (k : ℕ) (ws : List ℕ) (x next left : ℕ) (ms ms' : List Bool) → x ≤ length ws → scan k ws x next left ms ≡ Some ms'
+pub scan_walks : (k : ℕ) (ws : List ℕ) (x next left : ℕ) (ms ms' : List Bool) → x ≤ length ws → tiled_from k ws x next left ms ≡ Some ms'
     → Walked ws x next left ms ms'
 scan_walks zero ws x next left ms ms' l h = absurd (none-some ms' (sym (scan_zero ws x next left ms) ∙ h))
 scan_walks (suc k) ws x next left ms ms' l h =
-    let rec : (y g t : ℕ) (ns : List Bool) → y ≤ length ws → scan k ws y g t ns ≡ Some ms' → Walked ws y g t ns ms' =
+    let rec : (y g t : ℕ) (ns : List Bool) → y ≤ length ws → tiled_from k ws y g t ns ≡ Some ms' → Walked ws y g t ns ms' =
     λ y g t ns b e. scan_walks k ws y g t ns ms' b e in
     elim (dec_lt x (length ws)) [
       | yes lt ↦ elim (dec_lt x next) [
@@ -48,7 +48,7 @@ scan_walks (suc k) ws x next left ms ms' l h =
           { order = []; filled = omega arith; not_empty = tt; begins = sym r.0; chain = tt; sums = sym r.1; sized = tt; marks = r.2 }
     ]
   where
-    block : ((y g t : ℕ) (ns : List Bool) → y ≤ length ws → scan k ws y g t ns ≡ Some ms' → Walked ws y g t ns ms')
+    block : ((y g t : ℕ) (ns : List Bool) → y ≤ length ws → tiled_from k ws y g t ns ≡ Some ms' → Walked ws y g t ns ms')
         → x < length ws → (x ≡ next → ⊥) → Walked ws x next left ms ms'
     block rec lt ne =
         elim (dec_le (tile_size ws x) (length ws - x)) [
@@ -67,7 +67,7 @@ scan_walks (suc k) ws x next left ms ms' l h =
           | no f ↦ absurd (none-some ms' (sym (scan_no_block k ws x next left ms lt ne (omega arith)) ∙ h))
         ]
 
-    gap : ((y g t : ℕ) (ns : List Bool) → y ≤ length ws → scan k ws y g t ns ≡ Some ms' → Walked ws y g t ns ms')
+    gap : ((y g t : ℕ) (ns : List Bool) → y ≤ length ws → tiled_from k ws y g t ns ≡ Some ms' → Walked ws y g t ns ms')
         → x < length ws → x ≡ next → (b : Bool) → is_gap ws x left ≡ b → Walked ws x next left ms ms'
     gap rec lt e true q =
         let g = gap_size ws x left q in
@@ -106,7 +106,7 @@ gap_word w n f e h k = omega arith
 
 pub walks_scan : (ts : List Tile) (k : ℕ) (ws : List ℕ) (x : ℕ) (ms : List Bool) → length ws ≤ 2 ^ 18 → 1 ≤ x → length ws - x < k
     → x + sum (map size ts) ≡ length ws → Each (λ t. 1 ≤ size t) ts → Chain ws (idles x ts) → Each (Sized (tile_size ws)) (useds x ts)
-    → scan k ws x (first_of (idles x ts)) (total (idles x ts)) ms ≡ Some (mark_all (useds x ts) ms)
+    → tiled_from k ws x (first_of (idles x ts)) (total (idles x ts)) ms ≡ Some (mark_all (useds x ts) ms)
 walks_scan ts zero ws x ms small lx lk f n c z = absurd (omega arith)
 walks_scan [] (suc k) ws x ms small lx lk f n c z = scan_end k ws x 0 0 ms (omega arith)
 walks_scan (idle m ∷ ts) (suc k) ws x ms small lx lk f n c z =
@@ -121,9 +121,9 @@ walks_scan (idle m ∷ ts) (suc k) ws x ms small lx lk f n c z =
     (λ j l. let p : x + 1 + j ≡ x + (1 + j) = omega arith in ap (λ (y : ℕ). get_or ws y 0) p ∙ c.1 (1 + j) (omega arith) (omega arith)) in
     scan_gap k ws x x (total (idles x (idle m ∷ ts))) ms (omega arith) refl
     (gap_yes ws x (total (idles x (idle m ∷ ts))) g.0 (omega arith) (omega arith) (omega arith) b)
-    ∙ ap (λ (j : ℕ). scan k ws (x + j) (high (get_or ws x 0)) (total (idles x (idle m ∷ ts)) - j) ms) gl
-    ∙ ap (λ (j : ℕ). scan k ws (x + m) j (total (idles x (idle m ∷ ts)) - m) ms) gh
-    ∙ ap (λ (j : ℕ). scan k ws (x + m) (first_of (idles (x + m) ts)) j ms) q
+    ∙ ap (λ (j : ℕ). tiled_from k ws (x + j) (high (get_or ws x 0)) (total (idles x (idle m ∷ ts)) - j) ms) gl
+    ∙ ap (λ (j : ℕ). tiled_from k ws (x + m) j (total (idles x (idle m ∷ ts)) - m) ms) gh
+    ∙ ap (λ (j : ℕ). tiled_from k ws (x + m) (first_of (idles (x + m) ts)) j ms) q
     ∙ walks_scan ts k ws (x + m) ms small (omega arith) (omega arith) (omega arith) n.1 c.2 z
 walks_scan (used m ∷ ts) (suc k) ws x ms small lx lk f n c z =
     let m1 : 1 ≤ m = n.0 in
@@ -131,5 +131,5 @@ walks_scan (used m ∷ ts) (suc k) ws x ms small lx lk f n c z =
     let fl = first_from (x + m) ts in
     let ne : x ≡ first_of (idles (x + m) ts) → ⊥ = λ (q : x ≡ first_of (idles (x + m) ts)). elim fl [ inl e ↦ omega arith | inr l ↦ omega arith ] in
     scan_block k ws x (first_of (idles (x + m) ts)) (total (idles (x + m) ts)) ms (omega arith) ne (omega arith)
-    ∙ ap (λ (j : ℕ). scan k ws (x + j) (first_of (idles (x + m) ts)) (total (idles (x + m) ts)) (set ms x true)) (sym s)
+    ∙ ap (λ (j : ℕ). tiled_from k ws (x + j) (first_of (idles (x + m) ts)) (total (idles (x + m) ts)) (set ms x true)) (sym s)
     ∙ walks_scan ts k ws (x + m) (set ms x true) small (omega arith) (omega arith) (omega arith) n.1 c z.1

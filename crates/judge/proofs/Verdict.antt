@@ -5,7 +5,7 @@ use lib.ListN.{length-replicate}
 use Rattle.layout.specs.Holds.{Holds}
 use Rattle.judge.specs.Arrays.{run, visit}
 use Rattle.judge.specs.Marks.{Down, flags}
-use Rattle.judge.specs.Tiles.{high, low, scan}
+use Rattle.judge.specs.Tiles.{high, low, tiled_from}
 use Rattle.codeword.specs.declared.head.Head.{Head}
 use Rattle.judge.proofs.Bits.{length_flags}
 use Rattle.judge.proofs.Heads.{Says}
@@ -31,12 +31,12 @@ module _ (ws : List ℕ) (bits : List ℕ) (most : length ws ≤ 2 ^ 18) (room :
   passes H = holds_passes ws (flags bits) enough down H
 
   abbrev scanned : Option (List Bool)
-  scanned = scan (suc (length ws)) ws 65 h.next h.size (flags bits)
+  scanned = tiled_from (suc (length ws)) ws 65 h.next h.size (flags bits)
 
-  same_scan : scanned ≡ scan (suc (length ws)) ws 65 (high (get_or ws 0 0)) (low (get_or ws 0 0)) (flags bits)
+  same_scan : scanned ≡ tiled_from (suc (length ws)) ws 65 (high (get_or ws 0 0)) (low (get_or ws 0 0)) (flags bits)
   same_scan =
-      ap (λ (k : ℕ). scan (suc (length ws)) ws 65 k h.size (flags bits)) says.next
-      ∙ ap (λ (k : ℕ). scan (suc (length ws)) ws 65 (high (get_or ws 0 0)) k (flags bits)) says.size
+      ap (λ (k : ℕ). tiled_from (suc (length ws)) ws 65 k h.size (flags bits)) says.next
+      ∙ ap (λ (k : ℕ). tiled_from (suc (length ws)) ws 65 (high (get_or ws 0 0)) k (flags bits)) says.size
 
   pub not_tiled : None ≡ scanned → Holds ws → ⊥
   not_tiled e H = let p = passes H in none-some p.marked (e ∙ same_scan ∙ p.scanned)

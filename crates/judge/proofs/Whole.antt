@@ -12,7 +12,7 @@ use Rattle.layout.proofs.Order.{Ordered, Tile, idle, idles, ordered, size, tiled
 use Rattle.ledger.specs.Trees.{sum}
 use Rattle.judge.specs.Arrays.{run, visit}
 use Rattle.judge.specs.Marks.{Down}
-use Rattle.judge.specs.Tiles.{high, low, scan, tile_size}
+use Rattle.judge.specs.Tiles.{high, low, tiled_from, tile_size}
 use Rattle.judge.proofs.Decode.{Read, each_concat, run_clears, run_reads, shown_clears, shown_sized, visit_reads}
 use Rattle.judge.proofs.Starts.{Marked, Sized, all_marked, clears, clears_all, clears_perm, mark_all, starts_perm}
 use Rattle.judge.proofs.Tiling.{first_high, scan_walks, walks_scan}
@@ -29,7 +29,7 @@ module _ (ws : List ℕ) (ms : List Bool) (room : length ws ≤ length ms) (down
   -- ── What passes holds together ────────────────────────────────────────
 
   pub passes_holds : 67 ≤ length ws → length ws ≤ 2 ^ 18 → (ms₁ ms₂ : List Bool)
-      → scan (suc (length ws)) ws 65 (high (get_or ws 0 0)) (low (get_or ws 0 0)) ms ≡ Some ms₁
+      → tiled_from (suc (length ws)) ws 65 (high (get_or ws 0 0)) (low (get_or ws 0 0)) ms ≡ Some ms₁
       → run (visit 4 ws) 1 64 ms₁ ≡ Some ms₂
       → Down ms₂
       → Holds ws
@@ -77,7 +77,7 @@ module _ (ws : List ℕ) (ms : List Bool) (room : length ws ≤ length ms) (down
     pub header : get_or ws 0 0 < 2 ^ 36
     pub marked : List Bool
     pub left : List Bool
-    pub scanned : scan (suc (length ws)) ws 65 (high (get_or ws 0 0)) (low (get_or ws 0 0)) ms ≡ Some marked
+    pub scanned : tiled_from (suc (length ws)) ws 65 (high (get_or ws 0 0)) (low (get_or ws 0 0)) ms ≡ Some marked
     pub visited : run (visit 4 ws) 1 64 marked ≡ Some left
     pub spent : Down left
 
@@ -113,8 +113,8 @@ module _ (ws : List ℕ) (ms : List Bool) (room : length ws ≤ length ms) (down
         marked = ms₁;
         left = K.0;
         scanned =
-            ap (λ (k : ℕ). scan (suc (length ws)) ws 65 k (low (get_or ws 0 0)) ms) hd.1
-            ∙ ap (λ (k : ℕ). scan (suc (length ws)) ws 65 (first_of (idles 65 ts)) k ms) hd.2
+            ap (λ (k : ℕ). tiled_from (suc (length ws)) ws 65 k (low (get_or ws 0 0)) ms) hd.1
+            ∙ ap (λ (k : ℕ). tiled_from (suc (length ws)) ws 65 (first_of (idles 65 ts)) k ms) hd.2
             ∙ walks_scan ts (suc (length ws)) ws 65 ms most (omega arith) (omega arith) fl ne (subst (λ (g : List Piece). Chain ws g) (sym gs) D.chain) U;
         visited =
             ap (λ (k : ℕ). run (visit 4 ws) 1 k ms₁) (sym S.names_64)

@@ -1,5 +1,5 @@
 -- Going down from a codeword over the blocks that it labels.
-use Rattle.std.specs.Prelude.{ℕ, zero, suc, ◌+◌, ◌-◌, Bool, false, cond, ◌&&◌, List, length, get_or, Some, None, Option, ◌==◌, nat_le, slice_index, slice_index_or, slice_set}
+use Rattle.std.specs.Prelude.{ℕ, zero, suc, ◌+◌, ◌-◌, Bool, false, cond, ◌&&◌, List, length, get_or, Some, None, Option, option_and_then, ◌==◌, nat_le, slice_index, slice_index_or, slice_set}
 use Rattle.codeword.specs.Codeword.{unpacked}
 use Rattle.codeword.specs.Lawful.{lawful}
 
@@ -17,14 +17,10 @@ coded w = (unpacked w).r
 unfoldable pub is_label : ℕ → ℕ → Bool
 is_label n w = lawful w && (nat_le 66 (first w) && nat_le (first w + count w) n)
 
-abbrev pub and_then : {X Y : Type 0} → Option X → (X → Option Y) → Option Y
-and_then None f = None
-and_then (Some x) f = f x
-
 -- n codewords from a on, each in turn
 unfoldable pub run : (ℕ → List Bool → Option (List Bool)) → ℕ → ℕ → List Bool → Option (List Bool)
 run f a zero ms = Some ms
-run f a (suc n) ms = and_then (f a ms) (run f (a + 1) n)
+run f a (suc n) ms = option_and_then (run f (a + 1) n) (f a ms)
 
 -- the codeword at a: its block begins at a mark, which goes down, and names a; codewords in it are gone over in turn
 abbrev pub visit_block : (ℕ → List Bool → Option (List Bool)) → List ℕ → ℕ → List Bool → Option (List Bool)

@@ -26,8 +26,8 @@ is_gap ws x left =
     nat_lt w (2 ^ 36) && (nat_le 1 (low w) && (nat_le (low w) left && (nat_le (low w) (length ws - x) && is_blank ws (x + 1) (low w - 1))))
 
 -- what it says
-abbrev pub gap_at : List ℕ → ℕ → ℕ → Option Head
-gap_at ws x left = cond (is_gap ws x left) (Some (record { size = low (slice_index ws x); next = high (slice_index ws x) })) None
+abbrev pub gap_head : List ℕ → ℕ → ℕ → Option Head
+gap_head ws x left = cond (is_gap ws x left) (Some (record { size = low (slice_index ws x); next = high (slice_index ws x) })) None
 
 -- the words of the active block whose back-reference lies at x, if one does
 unfoldable pub tile_size : List ℕ → ℕ → ℕ
@@ -35,13 +35,13 @@ tile_size ws x = 1 + field 18 18 (slice_index ws (slice_index ws x))
 
 -- the gaps and blocks from x on, where the next gap is due and how many words of gaps are left: every block's start is marked.
 -- None where they do not fill the list to its end, or the gaps are not those of the chain
-unfoldable pub scan : ℕ → List ℕ → (x next left : ℕ) → List Bool → Option (List Bool)
-scan zero ws x next left ms = None
-scan (suc k) ws x next left ms =
+unfoldable pub tiled_from : ℕ → List ℕ → (x next left : ℕ) → List Bool → Option (List Bool)
+tiled_from zero ws x next left ms = None
+tiled_from (suc k) ws x next left ms =
     cond (nat_lt x (length ws))
     (cond (x == next)
-    (cond (is_gap ws x left) (scan k ws (x + low (slice_index ws x)) (high (slice_index ws x)) (left - low (slice_index ws x)) ms) None)
-    (cond (nat_le (tile_size ws x) (length ws - x)) (scan k ws (x + tile_size ws x) next left (slice_set ms x true)) None))
+    (cond (is_gap ws x left) (tiled_from k ws (x + low (slice_index ws x)) (high (slice_index ws x)) (left - low (slice_index ws x)) ms) None)
+    (cond (nat_le (tile_size ws x) (length ws - x)) (tiled_from k ws (x + tile_size ws x) next left (slice_set ms x true)) None))
     (cond (next == 0 && left == 0) (Some ms) None)
 
 -- what a pass answers and the marks that it leaves, as one value; those of a pass that fails are not told

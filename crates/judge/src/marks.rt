@@ -1,6 +1,6 @@
 // A mark for each address.
 ghost use Rattle.std.specs.Prelude.{◌≡◌, ◌<◌, true, false, length, Decides, slice_index_or, slice_set};
-ghost use Rattle.judge.specs.Marks.{Down, Zeros, bit_at, flags};
+ghost use Rattle.judge.specs.Marks.{Down, Zeros, has_bit, flags};
 
 use store::MOST;
 
@@ -63,7 +63,7 @@ impl Marks {
 /// A bit of a word, the lowest first. The crate codeword has a function like it that is private and stops at bit 62; marks need bit 63.
 fn bit(word: u64, at: usize) -> bool
     requires { at < 64 }
-    ensures { result ≡ bit_at word at }
+    ensures { result ≡ has_bit word at }
 {
     (word >> at) % 2 == 1
 }

@@ -2,7 +2,7 @@
 ghost use Rattle.std.specs.Prelude.{◌≡◌, suc, ◌+◌, ◌<◌, ◌&&◌, length, ◌==◌, slice_index};
 ghost use Rattle.codeword.specs.Codeword.{field};
 ghost use Rattle.judge.specs.Marks.{flags};
-ghost use Rattle.judge.specs.Tiles.{gap_at, head_of, outcome, scan};
+ghost use Rattle.judge.specs.Tiles.{gap_head, head_of, outcome, tiled_from};
 
 use crate::judged::Judged;
 use crate::marks::all_zero;
@@ -24,7 +24,7 @@ impl Judged<'_> {
     #[tactic(auto, using(crate::proofs::Ways::gap_ways))]
     fn gap(&self, at: usize, left: u64) -> Option<Head>
         requires { at < length self.now.words.now }
-        ensures { result ≡ gap_at self.now.words.now at left }
+        ensures { result ≡ gap_head self.now.words.now at left }
     {
         let gap = read_head(self.words[at])?;
         if gap.size < 1 || gap.size > left || gap.size > (self.words.len() - at) as u64 {
@@ -52,7 +52,7 @@ impl Judged<'_> {
     pub(crate) fn tiled(&mut self, chain: Head) -> bool
         ensures same_words { self.new.words.now ≡ self.old.words.now }
         ensures verdict { outcome result (flags self.new.marks.bits)
-            ≡ scan (suc (length self.old.words.now)) self.old.words.now 65 chain.next chain.size (flags self.old.marks.bits) }
+            ≡ tiled_from (suc (length self.old.words.now)) self.old.words.now 65 chain.next chain.size (flags self.old.marks.bits) }
     {
         let mut left = chain;
         let mut at = FIRST as usize;

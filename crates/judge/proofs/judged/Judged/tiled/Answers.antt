@@ -1,6 +1,6 @@
 use Rattle.std.proofs.Common.{◌≡◌, ℕ, suc, ◌+◌, ◌-◌, ◌<◌, ◌≤◌, Bool, List, length, get_or, refl, ap, ◌∙◌, arith}
 use Rattle.judge.specs.Marks.{flags}
-use Rattle.judge.specs.Tiles.{low, scan, tile_size}
+use Rattle.judge.specs.Tiles.{low, tiled_from, tile_size}
 use Rattle.judge.proofs.Heads.{some_gap}
 use Rattle.judge.proofs.Steps.{gap_size, scan_on_block, scan_on_gap, size_pos, size_told}
 use Rattle.judge.proofs.judged.Judged.tiled.Goals as goal
@@ -49,7 +49,7 @@ loop-at-preserved c =
       rest = (
         k - 1,
         omega (arith, f, m, p, s, l),
-        ap (λ (ms : List Bool). scan (suc (k - 1)) ws (x + n) left.next left.size ms) c.raise.ensures
+        ap (λ (ms : List Bool). tiled_from (suc (k - 1)) ws (x + n) left.next left.size ms) c.raise.ensures
             ∙ scan_on_block k ws x left.next left.size (flags c.loop-at.self.marks.bits) n l f c.if-at-left.false s m
             ∙ c.loop-at.invariant.rest.2,
       );
