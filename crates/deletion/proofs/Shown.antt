@@ -35,7 +35,7 @@ use Rattle.placement.proofs.Moves.{length_renewed}
 use Rattle.placement.specs.Moves.{renewed}
 use Rattle.deletion.proofs.Behind.{apart, closed, run_both}
 use Rattle.deletion.proofs.Moved.{codes_kept, codes_shown, copied_kept, data_shown}
-use Rattle.deletion.specs.Closing.{closed_up, shut}
+use Rattle.deletion.specs.Closing.{elements_closed_up, shut}
 
 -- ── The last words are linked ──────────────────────────────────────────
 
@@ -84,7 +84,7 @@ module _ (ws : List ℕ) (A : Arrangement) (o : Sound A) (sh : Displays ws A) (t
 
   -- closing up goes by as many elements as are behind
   count_is : (q : Bool) (s N k c : ℕ) (b : ℤ) (ty : ℕ) (us : List ℕ) → c ≡ N - (k + n)
-      → closed_up (labelling (s + 1) N b q ty) (s + 1 + k) (s + 1 + N) n us
+      → elements_closed_up (labelling (s + 1) N b q ty) (s + 1 + k) (s + 1 + N) n us
       ≡ cond q (renewed c (s + 1 + k) (copied c (s + 1 + k + n) (s + 1 + k) us)) (copied c (s + 1 + k + n) (s + 1 + k) us)
   count_is q s N k c b ty us e =
       let one : s + 1 + N - (s + 1 + k + n) ≡ c = omega arith in
@@ -98,7 +98,7 @@ module _ (ws : List ℕ) (A : Arrangement) (o : Sound A) (sh : Displays ws A) (t
       (copied (length (drop (k + n) xs)) (s + 1 + k + n) (s + 1 + k) us)) at (word (label s (length (delete_at k n xs)) b q ty))
   shut_is q s k b ty xs us h =
       let N : ℕ = length xs in
-      ap (λ (m : ℕ). set (closed_up (labelling (s + 1) N b q ty) (s + 1 + k) (s + 1 + N) n us) at (packed (labelling (s + 1) m b q ty))) (sym (delete_length k n xs h))
+      ap (λ (m : ℕ). set (elements_closed_up (labelling (s + 1) N b q ty) (s + 1 + k) (s + 1 + N) n us) at (packed (labelling (s + 1) m b q ty))) (sym (delete_length k n xs h))
       ∙ ap (λ (zs : List ℕ). set zs at (word (label s (length (delete_at k n xs)) b q ty))) (count_is q s N k (length (drop (k + n) xs)) b ty us (length-drop (k + n) xs))
 
   -- ── A row ────────────────────────────────────────────────────────────
