@@ -2,8 +2,8 @@
 use Rattle.std.proofs.Common.{◌≡◌, ℕ, zero, suc, ◌<◌, ◌≤◌, ◌⊎◌, List, [], ◌∷◌, length, drop, ap, ◌∙◌, sym, inl, inr, arith}
 use Rattle.agreement.specs.Accounts.{Account, TrueToLedger, count}
 use Rattle.agreement.specs.Law.{Agree, Settled}
-use Rattle.agreement.specs.Outcomes.{Broken, Ended, account}
-use Rattle.agreement.specs.Playing.{Plays}
+use Rattle.agreement.specs.Outcomes.{Broken, account}
+use Rattle.agreement.specs.Playing.{Ended, Plays}
 use Rattle.agreement.specs.Runs.{RowNext, ledger_trees}
 use Rattle.agreement.specs.declared.settlement.Played.{Played}
 use Rattle.agreement.proofs.Keeps.{so_far, whole}

@@ -1,8 +1,8 @@
 -- What comes of making two keepers and of playing a list to each.
-use Rattle.std.specs.Prelude.{◌≡◌, ℕ, ◌<◌, ◌≤◌, ◌⊎◌, List, map, length, take, drop, Ok, Err, Result}
+use Rattle.std.specs.Prelude.{◌≡◌, ℕ, ◌<◌, ◌≤◌, ◌⊎◌, List, map, length, take, Ok, Err, Result}
 use Rattle.agreement.specs.Accounts.{Account}
 use Rattle.agreement.specs.Law.{Settled}
-use Rattle.agreement.specs.Runs.{RowNext}
+use Rattle.agreement.specs.Playing.{Ended}
 use Rattle.agreement.specs.declared.settlement.Played.{Played}
 use Rattle.agreement.specs.declared.settlement.Settlement.{Settlement}
 use Rattle.agreement.specs.declared.settlement.Unsettled.{Unsettled}
@@ -17,10 +17,6 @@ account ws es p us = record { before = ws; list = es; gave = map reply_of p.repl
 -- the same of the entries that were played
 abbrev pub account_so_far : List ℕ → List Entry → Played → List ℕ → Account
 account_so_far ws es p us = account ws (take p.entries es) p us
-
--- the list was played to its end, or up to a row that was to be read
-abbrev pub Ended : List Entry → Played → List ℕ → Type 0
-Ended es p us = (p.entries ≡ length es) ⊎ RowNext us (drop p.entries es)
 
 -- The memory gave out at a row that was read, by one keeper or by both: all is so of the entries that were played.
 pub record Broken (ws : List ℕ) (es : List Entry) (p : Played) (ws' : List ℕ) (vs : List ℕ) (fs : List Entry) (q : Played) (vs' : List ℕ) : Type 0 where
