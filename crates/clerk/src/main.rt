@@ -1,4 +1,5 @@
-// The clerk of open items: a morning, a ragged table whose rows move, and a month that is carried over to another house.
+// The clerk of open items: a morning, a ragged table whose rows move, a month that is carried over to another house, and a month that
+// receivables and treasury close together.
 #![tactic(auto)]
 
 mod closing;
