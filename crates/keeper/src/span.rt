@@ -9,8 +9,7 @@ use store::{Store, word};
 use walk::walk;
 
 impl<S: Store> Keeper<S> {
-    /// Base, length, whether it holds codewords, and type of the block at a trace, a tuple of plain values as is asked for; none where nothing
-    /// is labelled.
+    /// Base, length, whether it holds codewords, and type of the block at a trace, a tuple of plain values; none where nothing is labelled.
     pub fn span(&self, trace: &Trace) -> Result<Option<(i64, u64, bool, u64)>, Refusal>
         ensures { Answers (S.Store.words self.now.store) (on trace.now Span) (span_of result) }
     {
