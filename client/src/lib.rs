@@ -5,7 +5,7 @@
 
 mod keeper;
 mod kind;
-mod raw;
+pub mod raw;
 mod refusal;
 
 pub use keeper::{Keeper, Shape, Trace};

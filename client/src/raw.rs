@@ -1,4 +1,5 @@
-//! The functions of the proved library over words, as `include/keeper.h` declares them.
+//! The functions of the proved library over words, as `include/keeper.h` declares them. It says there what a caller must uphold; `Keeper`
+//! upholds it.
 
 /// What a span answers: all 0 where nothing is booked.
 #[repr(C)]
