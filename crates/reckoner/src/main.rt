@@ -2,6 +2,7 @@
 #![tactic(auto)]
 
 mod block;
+mod booked;
 mod booking;
 mod house;
 mod line;
