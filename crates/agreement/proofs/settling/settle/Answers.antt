@@ -5,8 +5,8 @@ use Rattle.agreement.proofs.Settles.{both_whole, broken}
 use Rattle.agreement.proofs.settling.settle.Goals.{then-settlement-asked, else-settlement-asked}
 use Rattle.agreement.proofs.settling.settle.Goals as goal
 
-pub returns-then-whole-clause-settles : goal.returns-then-whole-clause-outcome
-returns-then-whole-clause-settles g c =
+pub returns-then-whole-clause-outcome : goal.returns-then-whole-clause-outcome
+returns-then-whole-clause-outcome g c =
     let ws = g.R.Store.words c.args.receivables.now.store in
     let vs = g.Q.Store.words c.args.treasury.now.store in
     let lo : 67 ≤ length ws = search rules in
@@ -18,8 +18,8 @@ returns-then-whole-clause-settles g c =
     (elim c.if-settlement-asked.branch [ then-settlement-asked w ↦ grind (arith, nat_tests) | else-settlement-asked w ↦ grind (arith, nat_tests) ])
     (elim c.if-settlement-asked.branch [ then-settlement-asked w ↦ grind (arith, nat_tests) | else-settlement-asked w ↦ grind (arith, nat_tests) ])
 
-pub returns-else-whole-clause-settles : goal.returns-else-whole-clause-outcome
-returns-else-whole-clause-settles g c =
+pub returns-else-whole-clause-outcome : goal.returns-else-whole-clause-outcome
+returns-else-whole-clause-outcome g c =
     let ws = g.R.Store.words c.args.receivables.now.store in
     let vs = g.Q.Store.words c.args.treasury.now.store in
     let lo : 67 ≤ length ws = search rules in
