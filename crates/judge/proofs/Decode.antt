@@ -12,7 +12,7 @@ use Rattle.layout.specs.Sound.{Each}
 use Rattle.layout.specs.Words.{labelling}
 use Rattle.layout.proofs.Bridge.{Fits}
 use Rattle.layout.proofs.Cover.{each-++}
-use Rattle.judge.specs.Arrays.{coded, count, first, is_label, run, visit, visit_block}
+use Rattle.judge.specs.Arrays.{coded, count, first, is_label, in_turn, visit, visit_block}
 use Rattle.judge.specs.Tiles.{tile_size}
 use Rattle.judge.proofs.Labels.{Label, label_fields, label_yes}
 use Rattle.judge.proofs.Starts.{Sized, clears, clears-++}
@@ -25,13 +25,13 @@ same_then None f g h = refl
 same_then (Some x) f g h = h x
 
 module _ {X : Type 0} (f : ℕ → List Bool → Option (List Bool)) (h : X → List Piece) (P : ℕ → X → Type 0) (Q : X → Type 0) where
-  pub run_clears : ((a : ℕ) (x : X) (ms : List Bool) → P a x → Q x → f a ms ≡ clears (h x) ms)
-      → (a : ℕ) (xs : List X) (ms : List Bool) → Along P a xs → Each Q xs → run f a (length xs) ms ≡ clears (concat (map h xs)) ms
-  unfolding run
-  run_clears one a [] ms p q = refl
-  run_clears one a (x ∷ xs) ms p q =
-      ap (λ (o : Option (List Bool)). option_and_then (run f (a + 1) (length xs)) o) (one a x ms p.0 q.0)
-      ∙ same_then (clears (h x) ms) (run f (a + 1) (length xs)) (clears (concat (map h xs))) (λ ns. run_clears one (a + 1) xs ns p.1 q.1)
+  pub in_turn_clears : ((a : ℕ) (x : X) (ms : List Bool) → P a x → Q x → f a ms ≡ clears (h x) ms)
+      → (a : ℕ) (xs : List X) (ms : List Bool) → Along P a xs → Each Q xs → in_turn f a (length xs) ms ≡ clears (concat (map h xs)) ms
+  unfolding in_turn
+  in_turn_clears one a [] ms p q = refl
+  in_turn_clears one a (x ∷ xs) ms p q =
+      ap (λ (o : Option (List Bool)). option_and_then (in_turn f (a + 1) (length xs)) o) (one a x ms p.0 q.0)
+      ∙ same_then (clears (h x) ms) (in_turn f (a + 1) (length xs)) (clears (concat (map h xs))) (λ ns. in_turn_clears one (a + 1) xs ns p.1 q.1)
       ∙ sym (clears-++ (h x) (concat (map h xs)) ms)
 
   then_some : {X Y : Type 0} (o : Option X) (g : X → Option Y) (y : Y) → option_and_then g o ≡ Some y → (x : X) × (o ≡ Some x) × (g x ≡ Some y)
@@ -39,11 +39,11 @@ module _ {X : Type 0} (f : ℕ → List Bool → Option (List Bool)) (h : X → 
   then_some (Some x) g y e = (x, refl, e)
 
   pub run_reads : ((a : ℕ) (ms ms' : List Bool) → f a ms ≡ Some ms' → (x : X) × P a x × Q x)
-      → (n a : ℕ) (ms ms' : List Bool) → run f a n ms ≡ Some ms' → (xs : List X) × (length xs ≡ n) × Along P a xs × Each Q xs
-  unfolding run
+      → (n a : ℕ) (ms ms' : List Bool) → in_turn f a n ms ≡ Some ms' → (xs : List X) × (length xs ≡ n) × Along P a xs × Each Q xs
+  unfolding in_turn
   run_reads one zero a ms ms' e = ([], refl, tt, tt)
   run_reads one (suc n) a ms ms' e =
-      let t = then_some (f a ms) (run f (a + 1) n) ms' e in
+      let t = then_some (f a ms) (in_turn f (a + 1) n) ms' e in
       let x = one a ms t.0 t.1 in
       let r = run_reads one n (a + 1) t.0 ms' t.2 in
       (x.0 ∷ r.0, ap suc r.1, (x.1, r.2), (x.2, r.3))
@@ -102,7 +102,7 @@ module _ (ws : List ℕ) (few : length ws ≤ 2 ^ 18) where
       go false q = block_unmarked (visit (suc d - 1) ws) ws a ms (ap (λ (k : ℕ). get_or ms k false) at ∙ q)
 
   codes_cleared : (d a s n : ℕ) (ms : List Bool) (r : Option (List Bool)) → Labels a s n true → get_or ws s 0 ≡ a
-      → run (visit d ws) (s + 1) n (set ms s false) ≡ r
+      → in_turn (visit d ws) (s + 1) n (set ms s false) ≡ r
       → visit (suc d) ws a ms ≡ cond (get_or ms s false) r None
   codes_cleared d a s n ms r L b e = visit_some (suc d) ws a ms (omega arith) L.some_word ∙ go (get_or ms s false) refl
     where
@@ -113,10 +113,10 @@ module _ (ws : List ℕ) (few : length ws ≤ 2 ^ 18) where
       go true q =
           let k : suc d - 1 ≡ d = omega arith in
           block_codes (visit (suc d - 1) ws) ws a ms L.lawful (ap (λ (j : ℕ). get_or ms j false) at ∙ q) (ap (λ (j : ℕ). get_or ws j 0) at ∙ b) L.codes
-          ∙ ap (λ (j : ℕ). run (visit (suc d - 1) ws) (first (get_or ws a 0)) (count (get_or ws a 0)) (set ms j false)) at
-          ∙ ap (λ (j : ℕ). run (visit (suc d - 1) ws) j (count (get_or ws a 0)) (set ms s false)) L.starts
-          ∙ ap (λ (j : ℕ). run (visit (suc d - 1) ws) (s + 1) j (set ms s false)) L.counts
-          ∙ ap (λ (j : ℕ). run (visit j ws) (s + 1) n (set ms s false)) k
+          ∙ ap (λ (j : ℕ). in_turn (visit (suc d - 1) ws) (first (get_or ws a 0)) (count (get_or ws a 0)) (set ms j false)) at
+          ∙ ap (λ (j : ℕ). in_turn (visit (suc d - 1) ws) j (count (get_or ws a 0)) (set ms s false)) L.starts
+          ∙ ap (λ (j : ℕ). in_turn (visit (suc d - 1) ws) (s + 1) j (set ms s false)) L.counts
+          ∙ ap (λ (j : ℕ). in_turn (visit j ws) (s + 1) n (set ms s false)) k
           ∙ e
       go false q = block_unmarked (visit (suc d - 1) ws) ws a ms (ap (λ (k : ℕ). get_or ms k false) at ∙ q)
 
@@ -137,7 +137,7 @@ module _ (ws : List ℕ) (few : length ws ≤ 2 ^ 18) where
   shown_clears (suc d) a (Codes x b ps) ms s g =
       codes_cleared d a x (length ps) ms (clears (concat (map (pieces d) ps)) (set ms x false))
       (codes_label a x b (length ps) g.0 g.1 g.2 g.3 s.0) s.1
-      (run_clears (visit d ws) (pieces d) (Shows d ws) (Fits (length ws) d) (λ y q ns h k. shown_clears d y q ns h k) (x + 1) ps (set ms x false) s.2 g.4)
+      (in_turn_clears (visit d ws) (pieces d) (Shows d ws) (Fits (length ws) d) (λ y q ns h k. shown_clears d y q ns h k) (x + 1) ps (set ms x false) s.2 g.4)
 
   -- each piece of a shown tree has the size that its back-reference leads to
   pub each_concat : {X : Type 0} (P : Piece → Type 0) (S : ℕ → X → Type 0) (G : X → Type 0) (f : X → List Piece)
@@ -216,19 +216,19 @@ module _ (ws : List ℕ) (few : length ws ≤ 2 ^ 18) where
         | no z ↦ absurd (none-some ms' (sym (visit_none zero ws a ms refl (λ (q : get_or ws a 0 ≡ 0). omega arith)) ∙ e))
       ]
   visit_reads (suc d) a ms ms' e =
-      let rec : (ns : List Bool) → run (visit (suc d - 1) ws) (first (get_or ws a 0)) (count (get_or ws a 0)) ns ≡ Some ms'
+      let rec : (ns : List Bool) → in_turn (visit (suc d - 1) ws) (first (get_or ws a 0)) (count (get_or ws a 0)) ns ≡ Some ms'
       → Rows d (first (get_or ws a 0)) (count (get_or ws a 0)) =
       λ ns r.
       let k : d ≡ suc d - 1 = omega arith in
       run_reads (visit d ws) (pieces d) (Shows d ws) (Fits (length ws) d) (λ y xs xs' h. visit_reads d y xs xs' h)
-      (count (get_or ws a 0)) (first (get_or ws a 0)) ns ms' (ap (λ (j : ℕ). run (visit j ws) (first (get_or ws a 0)) (count (get_or ws a 0)) ns) k ∙ r) in
+      (count (get_or ws a 0)) (first (get_or ws a 0)) ns ms' (ap (λ (j : ℕ). in_turn (visit j ws) (first (get_or ws a 0)) (count (get_or ws a 0)) ns) k ∙ r) in
       elim (dec_le (get_or ws a 0) 0) [
         | yes z ↦ (Vacant, omega arith, tt)
         | no z ↦ go rec (λ (q : get_or ws a 0 ≡ 0). omega arith) (is_label (length ws) (get_or ws a 0)) refl (get_or ms (first (get_or ws a 0) - 1) false) refl
             (coded (get_or ws a 0)) refl
       ]
     where
-      go : ((ns : List Bool) → run (visit (suc d - 1) ws) (first (get_or ws a 0)) (count (get_or ws a 0)) ns ≡ Some ms' → Rows d (first (get_or ws a 0)) (count (get_or ws a 0)))
+      go : ((ns : List Bool) → in_turn (visit (suc d - 1) ws) (first (get_or ws a 0)) (count (get_or ws a 0)) ns ≡ Some ms' → Rows d (first (get_or ws a 0)) (count (get_or ws a 0)))
           → (get_or ws a 0 ≡ 0 → ⊥) → (l : Bool) → is_label (length ws) (get_or ws a 0) ≡ l → (m : Bool) → get_or ms (first (get_or ws a 0) - 1) false ≡ m
           → (r : Bool) → coded (get_or ws a 0) ≡ r → Read (suc d) a
       go rec nz false l m q r c =

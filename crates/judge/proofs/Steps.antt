@@ -2,21 +2,21 @@
 use Rattle.std.proofs.Common.{◌≡◌, ℕ, zero, suc, ◌+◌, ◌-◌, ◌^◌, ◌<◌, ◌≤◌, Bool, true, false, cond, ◌&&◌, eqb, List, length, get_or, set, Some, None, Option, option_and_then, sym, refl, ap, ◌∙◌, arith}
 use Rattle.std.proofs.lemmas.Bool.Decides.{nat_tests}
 use Rattle.codeword.specs.Codeword.{field}
-use Rattle.judge.specs.Arrays.{coded, count, first, is_label, run, visit, visit_block}
+use Rattle.judge.specs.Arrays.{coded, count, first, is_label, in_turn, visit, visit_block}
 use Rattle.judge.specs.Tiles.{high, is_blank, is_gap, low, outcome, tiled_from, tile_size}
 
-pub run_more : (f : ℕ → List Bool → Option (List Bool)) (i e : ℕ) (ms : List Bool) → i < e
-    → run f i (e - i) ms ≡ option_and_then (run f (i + 1) (e - (i + 1))) (f i ms)
-unfolding run
-run_more f i e ms h =
+pub in_turn_more : (f : ℕ → List Bool → Option (List Bool)) (i e : ℕ) (ms : List Bool) → i < e
+    → in_turn f i (e - i) ms ≡ option_and_then (in_turn f (i + 1) (e - (i + 1))) (f i ms)
+unfolding in_turn
+in_turn_more f i e ms h =
     let p : e - i ≡ suc (e - (i + 1)) = omega arith in
-    ap (λ (k : ℕ). run f i k ms) p
+    ap (λ (k : ℕ). in_turn f i k ms) p
 
-pub run_end : (f : ℕ → List Bool → Option (List Bool)) (i e : ℕ) (ms : List Bool) → e ≤ i → run f i (e - i) ms ≡ Some ms
-unfolding run
-run_end f i e ms h =
+pub in_turn_end : (f : ℕ → List Bool → Option (List Bool)) (i e : ℕ) (ms : List Bool) → e ≤ i → in_turn f i (e - i) ms ≡ Some ms
+unfolding in_turn
+in_turn_end f i e ms h =
     let p : e - i ≡ 0 = omega arith in
-    ap (λ (k : ℕ). run f i k ms) p
+    ap (λ (k : ℕ). in_turn f i k ms) p
 
 -- one tile
 pub scan_gap : (k : ℕ) (ws : List ℕ) (x next left : ℕ) (ms : List Bool) → x < length ws → x ≡ next → is_gap ws x left ≡ true
@@ -82,7 +82,7 @@ module _ (f : ℕ → List Bool → Option (List Bool)) (ws : List ℕ) (a : ℕ
 
   pub block_codes : is_label (length ws) (get_or ws a 0) ≡ true → get_or ms (first (get_or ws a 0) - 1) false ≡ true
       → get_or ws (first (get_or ws a 0) - 1) 0 ≡ a → coded (get_or ws a 0) ≡ true
-      → visit_block f ws a ms ≡ run f (first (get_or ws a 0)) (count (get_or ws a 0)) (set ms (first (get_or ws a 0) - 1) false)
+      → visit_block f ws a ms ≡ in_turn f (first (get_or ws a 0)) (count (get_or ws a 0)) (set ms (first (get_or ws a 0) - 1) false)
   block_codes p q r s = grind (arith, nat_tests)
 
 -- the same, where the fuel suffices for each word that is left

@@ -3,7 +3,7 @@ use Rattle.std.proofs.Common.{◌≡◌, ℕ, zero, suc, ◌^◌, ◌≤◌, Boo
 use Rattle.std.proofs.lemmas.Option.{none-some, same_Some}
 use lib.ListN.{length-replicate}
 use Rattle.layout.specs.Holds.{Holds}
-use Rattle.judge.specs.Arrays.{run, visit}
+use Rattle.judge.specs.Arrays.{in_turn, visit}
 use Rattle.judge.specs.Marks.{Down, flags}
 use Rattle.judge.specs.Tiles.{high, low, tiled_from}
 use Rattle.codeword.specs.declared.head.Head.{Head}
@@ -45,14 +45,14 @@ module _ (ws : List ℕ) (bits : List ℕ) (most : length ws ≤ 2 ^ 18) (room :
     marked_is : (H : Holds ws) → ms₁ ≡ (passes H).marked
     marked_is H = same_Some ms₁ (passes H).marked (e ∙ same_scan ∙ (passes H).scanned)
 
-    pub not_sound : None ≡ run (visit 4 ws) 1 64 ms₁ → Holds ws → ⊥
-    not_sound f H = let p = passes H in none-some p.left (f ∙ ap (run (visit 4 ws) 1 64) (marked_is H) ∙ p.visited)
+    pub not_sound : None ≡ in_turn (visit 4 ws) 1 64 ms₁ → Holds ws → ⊥
+    not_sound f H = let p = passes H in none-some p.left (f ∙ ap (in_turn (visit 4 ws) 1 64) (marked_is H) ∙ p.visited)
 
-    pub decided : (ms₂ : List Bool) → Some ms₂ ≡ run (visit 4 ws) 1 64 ms₁ → 67 ≤ length ws → (r : Bool) → Decides r (Down ms₂) → Decides r (Holds ws)
+    pub decided : (ms₂ : List Bool) → Some ms₂ ≡ in_turn (visit 4 ws) 1 64 ms₁ → 67 ≤ length ws → (r : Bool) → Decides r (Down ms₂) → Decides r (Holds ws)
     decided ms₂ f least r d = (
       (λ t. passes_holds ws (flags bits) enough down least most ms₁ ms₂ (sym (e ∙ same_scan)) (sym f) (d.0 t)),
       (λ H.
           let p = passes H in
-          let same : ms₂ ≡ p.left = same_Some ms₂ p.left (f ∙ ap (run (visit 4 ws) 1 64) (marked_is H) ∙ p.visited) in
+          let same : ms₂ ≡ p.left = same_Some ms₂ p.left (f ∙ ap (in_turn (visit 4 ws) 1 64) (marked_is H) ∙ p.visited) in
           d.1 (λ s. ap (λ (ms : List Bool). get_or ms s false) same ∙ p.spent s)),
     )

@@ -10,10 +10,10 @@ use Rattle.layout.proofs.Decode.{fits}
 use Rattle.layout.proofs.Freed.{fits_good}
 use Rattle.layout.proofs.Order.{Ordered, Tile, idle, idles, ordered, size, tiled, used, useds}
 use Rattle.ledger.specs.Trees.{sum}
-use Rattle.judge.specs.Arrays.{run, visit}
+use Rattle.judge.specs.Arrays.{in_turn, visit}
 use Rattle.judge.specs.Marks.{Down}
 use Rattle.judge.specs.Tiles.{high, low, tiled_from, tile_size}
-use Rattle.judge.proofs.Decode.{Read, each_concat, run_clears, run_reads, shown_clears, shown_sized, visit_reads}
+use Rattle.judge.proofs.Decode.{Read, each_concat, in_turn_clears, run_reads, shown_clears, shown_sized, visit_reads}
 use Rattle.judge.proofs.Starts.{Marked, Sized, all_marked, clears, clears_all, clears_perm, mark_all, starts_perm}
 use Rattle.judge.proofs.Tiling.{first_high, scan_walks, walks_scan}
 
@@ -30,7 +30,7 @@ module _ (ws : List ℕ) (ms : List Bool) (room : length ws ≤ length ms) (down
 
   pub passes_holds : 67 ≤ length ws → length ws ≤ 2 ^ 18 → (ms₁ ms₂ : List Bool)
       → tiled_from (suc (length ws)) ws 65 (high (get_or ws 0 0)) (low (get_or ws 0 0)) ms ≡ Some ms₁
-      → run (visit 4 ws) 1 64 ms₁ ≡ Some ms₂
+      → in_turn (visit 4 ws) 1 64 ms₁ ≡ Some ms₂
       → Down ms₂
       → Holds ws
   unfolding Read
@@ -41,8 +41,8 @@ module _ (ws : List ℕ) (ms : List Bool) (room : length ws ≤ length ms) (down
       let M : Marked (useds 65 W.order) ms₁ =
       subst (Marked (useds 65 W.order)) W.marks (all_marked 65 W.order ms W.not_empty (omega (arith, fl, room)) down) in
       let C : clears (blocks N.0) ms₁ ≡ Some ms₂ =
-      sym (run_clears (visit 4 ws) (pieces 4) (Shows 4 ws) (Fits (length ws) 4) (λ y q ns h k. shown_clears ws most 4 y q ns h k) 1 N.0 ms₁ N.2 N.3)
-      ∙ ap (λ (k : ℕ). run (visit 4 ws) 1 k ms₁) N.1 ∙ f in
+      sym (in_turn_clears (visit 4 ws) (pieces 4) (Shows 4 ws) (Fits (length ws) 4) (λ y q ns h k. shown_clears ws most 4 y q ns h k) 1 N.0 ms₁ N.2 N.3)
+      ∙ ap (λ (k : ℕ). in_turn (visit 4 ws) 1 k ms₁) N.1 ∙ f in
       let Z : Each (Sized (tile_size ws)) (blocks N.0) =
       each_concat ws most (Sized (tile_size ws)) (Shows 4 ws) (Fits (length ws) 4) (pieces 4) (λ y q h k. shown_sized ws most 4 y q h k) 1 N.0 N.2 N.3 in
       let A : Arrangement = record { count = length ws; names = N.0; gaps = idles 65 W.order } in
@@ -78,7 +78,7 @@ module _ (ws : List ℕ) (ms : List Bool) (room : length ws ≤ length ms) (down
     pub marked : List Bool
     pub left : List Bool
     pub scanned : tiled_from (suc (length ws)) ws 65 (high (get_or ws 0 0)) (low (get_or ws 0 0)) ms ≡ Some marked
-    pub visited : run (visit 4 ws) 1 64 marked ≡ Some left
+    pub visited : in_turn (visit 4 ws) 1 64 marked ≡ Some left
     pub spent : Down left
 
   pub holds_passes : Holds ws → Passes
@@ -117,8 +117,8 @@ module _ (ws : List ℕ) (ms : List Bool) (room : length ws ≤ length ms) (down
             ∙ ap (λ (k : ℕ). tiled_from (suc (length ws)) ws 65 (first_of (idles 65 ts)) k ms) hd.2
             ∙ walks_scan ts (suc (length ws)) ws 65 ms most (omega arith) (omega arith) fl ne (subst (λ (g : List Piece). Chain ws g) (sym gs) D.chain) U;
         visited =
-            ap (λ (k : ℕ). run (visit 4 ws) 1 k ms₁) (sym S.names_64)
-            ∙ run_clears (visit 4 ws) (pieces 4) (Shows 4 ws) (Fits (length ws) 4) (λ y q ns h k. shown_clears ws most 4 y q ns h k) 1 A.names ms₁ D.names G
+            ap (λ (k : ℕ). in_turn (visit 4 ws) 1 k ms₁) (sym S.names_64)
+            ∙ in_turn_clears (visit 4 ws) (pieces 4) (Shows 4 ws) (Fits (length ws) 4) (λ y q ns h k. shown_clears ws most 4 y q ns h k) 1 A.names ms₁ D.names G
             ∙ K.1;
         spent = K.2;
       }

@@ -18,16 +18,16 @@ unfoldable pub is_label : ℕ → ℕ → Bool
 is_label n w = lawful w && (nat_le 66 (first w) && nat_le (first w + count w) n)
 
 -- n codewords from a on, each in turn
-unfoldable pub run : (ℕ → List Bool → Option (List Bool)) → ℕ → ℕ → List Bool → Option (List Bool)
-run f a zero ms = Some ms
-run f a (suc n) ms = option_and_then (run f (a + 1) n) (f a ms)
+unfoldable pub in_turn : (ℕ → List Bool → Option (List Bool)) → ℕ → ℕ → List Bool → Option (List Bool)
+in_turn f a zero ms = Some ms
+in_turn f a (suc n) ms = option_and_then (in_turn f (a + 1) n) (f a ms)
 
 -- the codeword at a: its block begins at a mark, which goes down, and names a; codewords in it are gone over in turn
 abbrev pub visit_block : (ℕ → List Bool → Option (List Bool)) → List ℕ → ℕ → List Bool → Option (List Bool)
 visit_block f ws a ms =
     let w : ℕ = get_or ws a 0 in
     cond (is_label (length ws) w && (slice_index_or ms (first w - 1) false && slice_index ws (first w - 1) == a))
-    (cond (coded w) (run f (first w) (count w) (slice_set ms (first w - 1) false)) (Some (slice_set ms (first w - 1) false)))
+    (cond (coded w) (in_turn f (first w) (count w) (slice_set ms (first w - 1) false)) (Some (slice_set ms (first w - 1) false)))
     None
 
 -- the codeword at a, with so many levels of blocks left

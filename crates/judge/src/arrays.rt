@@ -1,6 +1,6 @@
 // Arrays and blocks, down from a codeword.
 ghost use Rattle.std.specs.Prelude.{◌≡◌, ◌+◌, ◌<◌, ◌≤◌, length};
-ghost use Rattle.judge.specs.Arrays.{run, visit};
+ghost use Rattle.judge.specs.Arrays.{in_turn, visit};
 ghost use Rattle.judge.specs.Marks.{flags};
 ghost use Rattle.judge.specs.Tiles.{outcome};
 
@@ -47,7 +47,7 @@ impl Judged<'_> {
         requires { from + n ≤ length self.old.words.now }
         ensures same_words { self.new.words.now ≡ self.old.words.now }
         ensures verdict { outcome result (flags self.new.marks.bits)
-            ≡ run (visit levels self.old.words.now) from n (flags self.old.marks.bits) }
+            ≡ in_turn (visit levels self.old.words.now) from n (flags self.old.marks.bits) }
     {
         // With `all` in place of the loop the proof does not close: nothing is known after it of the marks that its closure takes down.
         for at in from..from + n {

@@ -1,5 +1,5 @@
 use Rattle.std.proofs.Common.{◌≡◌, ◌+◌, ◌-◌, ◌*◌}
-use Rattle.judge.specs.Arrays.{run, visit}
+use Rattle.judge.specs.Arrays.{in_turn, visit}
 use Rattle.judge.specs.Marks.{flags}
 use Rattle.judge.proofs.judged.Judged.+array_is_sound_block_is_sound.Given as goal
 
@@ -12,6 +12,6 @@ decreases-block_is_sound l = 2 * l.levels + 1
 abbrev pub invariant-block_is_sound-loop-at : goal.invariant-block_is_sound-loop-at
 invariant-block_is_sound-loop-at l = record {
   same_words : l.self.words.now ≡ l.fn.self.words.now;
-  rest : run (visit l.levels l.fn.self.words.now) l.at (l.from + l.n - l.at) (flags l.self.marks.bits)
-      ≡ run (visit l.levels l.fn.self.words.now) l.from l.n (flags l.fn.self.marks.bits);
+  rest : in_turn (visit l.levels l.fn.self.words.now) l.at (l.from + l.n - l.at) (flags l.self.marks.bits)
+      ≡ in_turn (visit l.levels l.fn.self.words.now) l.from l.n (flags l.fn.self.marks.bits);
 }
