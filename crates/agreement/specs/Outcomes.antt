@@ -32,11 +32,11 @@ pub record Untouched (ws ws' vs vs' : List ℕ) : Type 0 where
 
 -- Receivables' store had the words ws and has the words ws' now, and its keeper got the list es; treasury's store had vs and has vs', and
 -- its keeper got fs.
-abbrev pub Outcome : (ws : List ℕ) (es : List Entry) (ws' : List ℕ) (vs : List ℕ) (fs : List Entry) (vs' : List ℕ)
+abbrev pub SettlesTo : (ws : List ℕ) (es : List Entry) (ws' : List ℕ) (vs : List ℕ) (fs : List Entry) (vs' : List ℕ)
     → Result Settlement Unsettled → Type 0
-Outcome ws es ws' vs fs vs' (Ok s) =
+SettlesTo ws es ws' vs fs vs' (Ok s) =
     (s.receivables.entries ≡ length es) × (s.treasury.entries ≡ length fs)
     × Settled (account ws es s.receivables ws') (account vs fs s.treasury vs')
-Outcome ws es ws' vs fs vs' (Err (BrokeOff s)) = Broken ws es s.receivables ws' vs fs s.treasury vs'
-Outcome ws es ws' vs fs vs' (Err TooSmall) = ((length ws < 67) ⊎ (length vs < 67)) × Untouched ws ws' vs vs'
-Outcome ws es ws' vs fs vs' (Err NoMemory) = (67 ≤ length ws) × (67 ≤ length vs) × Untouched ws ws' vs vs'
+SettlesTo ws es ws' vs fs vs' (Err (BrokeOff s)) = Broken ws es s.receivables ws' vs fs s.treasury vs'
+SettlesTo ws es ws' vs fs vs' (Err TooSmall) = ((length ws < 67) ⊎ (length vs < 67)) × Untouched ws ws' vs vs'
+SettlesTo ws es ws' vs fs vs' (Err NoMemory) = (67 ≤ length ws) × (67 ≤ length vs) × Untouched ws ws' vs vs'

@@ -1,4 +1,4 @@
-ghost use Rattle.agreement.specs.Outcomes.{Outcome};
+ghost use Rattle.agreement.specs.Outcomes.{SettlesTo};
 ghost use Rattle.std.specs.Prelude.{◌≡◌};
 
 use crate::playing::play;
@@ -16,7 +16,7 @@ pub fn settle<R: Store, Q: Store>(
     treasury: &mut Keeper<Q>,
     handed_on: &[Entry<'_>],
 ) -> Result<Settlement, Unsettled>
-    ensures outcome { Outcome (R.Store.words receivables.old.store) asked.now (R.Store.words receivables.new.store) (Q.Store.words treasury.old.store) handed_on.now (Q.Store.words treasury.new.store) result }
+    ensures outcome { SettlesTo (R.Store.words receivables.old.store) asked.now (R.Store.words receivables.new.store) (Q.Store.words treasury.old.store) handed_on.now (Q.Store.words treasury.new.store) result }
     ensures receivables_rest { R.Store.rest receivables.new.store ≡ R.Store.rest receivables.old.store }
     ensures treasury_rest { Q.Store.rest treasury.new.store ≡ Q.Store.rest treasury.old.store }
 {
