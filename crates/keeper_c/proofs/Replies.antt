@@ -7,7 +7,7 @@ use Rattle.booking.specs.declared.refusal.Refusal.{Refusal}
 use Rattle.booking.specs.declared.trace.Trace.{Trace}
 use Rattle.elements.specs.Rows.{UnlessGranted, row_of}
 use Rattle.keeper_c.specs.Calls.{Calls, at, too_deep, unknown}
-use Rattle.keeper_c.specs.Told.{Shows, Tells, number_of, step_of, words_in}
+use Rattle.keeper_c.specs.Told.{TellsInto, Tells, number_of, step_of, words_in}
 use Rattle.keeper_c.specs.Traced.{Traced}
 use Rattle.layout.specs.Booked.{Answers, Books}
 use Rattle.layout.specs.Results.{done_of}
@@ -41,22 +41,22 @@ alike ws us vs n is d e number step c p q =
 -- the same three of a call that only looks, and writes what it answers into a slot
 pub shown : {X : Type 0} (ws : List ℕ) (n : ℕ) (is : List ℤ) (d e : Deed) (t : Trace) (q : Reply) (number step : ℕ) (f : Reply → X) (slot : X)
     → (t.name ≡ n) × (subscripts t ≡ is) → Answers ws (on t d) q → d ≡ e → number ≡ number_of q → step ≡ step_of q → slot ≡ f q
-    → Calls ws n is e (Shows number step f slot)
+    → Calls ws n is e (TellsInto number step f slot)
 shown ws n is d e t q number step f slot p b a k s l =
-    another ws n is d e (Shows number step f slot) a
+    another ws n is d e (TellsInto number step f slot) a
     (at t p.0 p.1 (λ h. record { number_told = k ∙ ap number_of (b h); step_told = s ∙ ap step_of (b h); answer = l ∙ ap f (b h) }))
 
 pub off_shown : {X : Type 0} (ws : List ℕ) (n : ℕ) (is : List ℤ) (d : Deed) (e : Refusal) (number step : ℕ) (f : Reply → X) (slot : X)
     → Traced n is (Err e) → number ≡ number_of (refused e) → step ≡ step_of (refused e) → slot ≡ f (refused e)
-    → Calls ws n is d (Shows number step f slot)
+    → Calls ws n is d (TellsInto number step f slot)
 off_shown ws n is d e number step f slot (inl p) k s l =
     unknown p.0 (record { number_told = k ∙ ap (λ r. number_of (refused r)) p.1; step_told = s ∙ ap (λ r. step_of (refused r)) p.1; answer = l ∙ ap (λ r. f (refused r)) p.1 })
 off_shown ws n is d e number step f slot (inr p) k s l =
     too_deep p.0 (record { number_told = k ∙ ap (λ r. number_of (refused r)) p.1; step_told = s ∙ ap (λ r. step_of (refused r)) p.1; answer = l ∙ ap (λ r. f (refused r)) p.1 })
 
 pub alike_shown : {X : Type 0} (ws : List ℕ) (n : ℕ) (is : List ℤ) (d e : Deed) (number step : ℕ) (f : Reply → X) (slot : X)
-    → Calls ws n is d (Shows number step f slot) → d ≡ e → Calls ws n is e (Shows number step f slot)
-alike_shown ws n is d e number step f slot c p = another ws n is d e (Shows number step f slot) p c
+    → Calls ws n is d (TellsInto number step f slot) → d ≡ e → Calls ws n is e (TellsInto number step f slot)
+alike_shown ws n is d e number step f slot c p = another ws n is d e (TellsInto number step f slot) p c
 
 -- a row, which the call itself wrote
 row_slot : (r : Result (Unit {0}) Refusal) (xs ys : List ℕ) → UnlessGranted r (ys ≡ xs) → ys ≡ words_in xs (row_of (λ w. w) r ys)
@@ -73,7 +73,7 @@ row_step (Err e) ys = refl
 
 pub row_done : (ws : List ℕ) (n : ℕ) (is : List ℤ) (d e : Deed) (t : Trace) (r : Result (Unit {0}) Refusal) (number step : ℕ) (xs ys : List ℕ)
     → (t.name ≡ n) × (subscripts t ≡ is) → Answers ws (on t d) (row_of (λ w. w) r ys) → UnlessGranted r (ys ≡ xs) → d ≡ e
-    → number ≡ number_of (done_of r) → step ≡ step_of (done_of r) → Calls ws n is e (Shows number step (words_in xs) ys)
+    → number ≡ number_of (done_of r) → step ≡ step_of (done_of r) → Calls ws n is e (TellsInto number step (words_in xs) ys)
 row_done ws n is d e t r number step xs ys p b u a k s =
     shown ws n is d e t (row_of (λ w. w) r ys) number step (words_in xs) ys p b a (k ∙ row_number r ys) (s ∙ row_step r ys) (row_slot r xs ys u)
 

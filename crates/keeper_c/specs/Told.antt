@@ -39,7 +39,7 @@ pub record Tells (number step : ℕ) (vs : List ℕ) (r : Reply) (us : List ℕ)
   pub words : vs ≡ us
 
 -- C is told the reply r by a number and a step, and what it answers stands in the slot
-pub record Shows {X : Type 0} (number step : ℕ) (shown : Reply → X) (slot : X) (r : Reply) (us : List ℕ) : Type 0 where
+pub record TellsInto {X : Type 0} (number step : ℕ) (shown : Reply → X) (slot : X) (r : Reply) (us : List ℕ) : Type 0 where
   pub number_told : number ≡ number_of r
   pub step_told : step ≡ step_of r
   pub answer : slot ≡ shown r

@@ -3,7 +3,7 @@ ghost use Rattle.booking.specs.Bookings.{Delete, Exchange, Free, Insert, Read, R
 ghost use Rattle.codeword.specs.Codeword.{field};
 ghost use Rattle.keeper.specs.Saved.{save_reply, saved};
 ghost use Rattle.keeper_c.specs.Calls.{Calls};
-ghost use Rattle.keeper_c.specs.Told.{Shows, Takes, Tells, extent_in, number_of, word_in, words_in};
+ghost use Rattle.keeper_c.specs.Told.{TellsInto, Takes, Tells, extent_in, number_of, word_in, words_in};
 ghost use Rattle.layout.specs.Held.{held_trees};
 ghost use Rattle.layout.specs.Holds.{Holds};
 ghost use Rattle.layout.specs.Keeping.{made, tidied};
@@ -187,7 +187,7 @@ pub extern "C" fn keeper_bytes_span(
     extent: &mut Extent,
     step: &mut u32,
 ) -> u32
-    ensures calls { Calls (byte_words bytes.old) name subscripts.now Span (Shows result step.new (extent_in extent.old) extent.new) }
+    ensures calls { Calls (byte_words bytes.old) name subscripts.now Span (TellsInto result step.new (extent_in extent.old) extent.new) }
     ensures same { bytes.new ≡ bytes.old }
 {
     let mut bank = ByteBank { lent: bytes };
@@ -205,7 +205,7 @@ pub extern "C" fn keeper_bytes_read(
     word: &mut u64,
     step: &mut u32,
 ) -> u32
-    ensures calls { Calls (byte_words bytes.old) name subscripts.now (Read kind subscript) (Shows result step.new (word_in word.old) word.new) }
+    ensures calls { Calls (byte_words bytes.old) name subscripts.now (Read kind subscript) (TellsInto result step.new (word_in word.old) word.new) }
     ensures same { bytes.new ≡ bytes.old }
 {
     let mut bank = ByteBank { lent: bytes };
@@ -241,7 +241,7 @@ pub extern "C" fn keeper_bytes_read_row(
     row: &mut [u64],
     step: &mut u32,
 ) -> u32
-    ensures calls { Calls (byte_words bytes.old) name subscripts.now (RowRead kind subscript (length row.old)) (Shows result step.new (words_in row.old) row.new) }
+    ensures calls { Calls (byte_words bytes.old) name subscripts.now (RowRead kind subscript (length row.old)) (TellsInto result step.new (words_in row.old) row.new) }
     ensures refused { 0 < result → row.new ≡ row.old }
     ensures same { bytes.new ≡ bytes.old }
 {

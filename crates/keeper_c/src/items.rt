@@ -1,7 +1,7 @@
 // What a block is, and its elements.
 ghost use Rattle.booking.specs.Bookings.{Read, RowRead, RowWrite, Span, Write};
 ghost use Rattle.keeper_c.specs.Calls.{Calls};
-ghost use Rattle.keeper_c.specs.Told.{Shows, Tells, extent_in, word_in, words_in};
+ghost use Rattle.keeper_c.specs.Told.{TellsInto, Tells, extent_in, word_in, words_in};
 ghost use Rattle.std.specs.Prelude.{◌≡◌, ◌<◌, length};
 
 use crate::reply::{Extent, answer, answer_span, answer_word};
@@ -18,7 +18,7 @@ pub fn span<E: Lendable>(
     extent: &mut Extent,
     step: &mut u32,
 ) -> u32
-    ensures calls { Calls (E.Lendable.words bank.old.lent.now) name subscripts.now Span (Shows result step.new (extent_in extent.old) extent.new) }
+    ensures calls { Calls (E.Lendable.words bank.old.lent.now) name subscripts.now Span (TellsInto result step.new (extent_in extent.old) extent.new) }
     ensures same { bank.new.lent.now ≡ bank.old.lent.now }
     ensures lender { bank.new.lent.ghost_name ≡ bank.old.lent.ghost_name }
 {
@@ -39,7 +39,7 @@ pub fn read<E: Lendable>(
     word: &mut u64,
     step: &mut u32,
 ) -> u32
-    ensures calls { Calls (E.Lendable.words bank.old.lent.now) name subscripts.now (Read kind subscript) (Shows result step.new (word_in word.old) word.new) }
+    ensures calls { Calls (E.Lendable.words bank.old.lent.now) name subscripts.now (Read kind subscript) (TellsInto result step.new (word_in word.old) word.new) }
     ensures same { bank.new.lent.now ≡ bank.old.lent.now }
     ensures lender { bank.new.lent.ghost_name ≡ bank.old.lent.ghost_name }
 {
@@ -87,7 +87,7 @@ pub fn read_row<E: Lendable>(
     row: &mut [u64],
     step: &mut u32,
 ) -> u32
-    ensures calls { Calls (E.Lendable.words bank.old.lent.now) name subscripts.now (RowRead kind subscript (length row.old)) (Shows result step.new (words_in row.old) row.new) }
+    ensures calls { Calls (E.Lendable.words bank.old.lent.now) name subscripts.now (RowRead kind subscript (length row.old)) (TellsInto result step.new (words_in row.old) row.new) }
     ensures refused { 0 < result → row.new ≡ row.old }
     ensures same { bank.new.lent.now ≡ bank.old.lent.now }
     ensures lender { bank.new.lent.ghost_name ≡ bank.old.lent.ghost_name }
