@@ -33,7 +33,7 @@ pub trait Kind {
         requires { length items.now ≡ length words.old }
         ensures { words.new ≡ map word items.now }
     {
-        // By slice and index, as is asked for.
+        // By slice and index.
         for (k, item) in items.iter().enumerate() {
             words[k] = Self::to_word(*item);
         }

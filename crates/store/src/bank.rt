@@ -51,7 +51,7 @@ pub trait Lendable: Copy {
         ensures after { words list.new ≡ laid (map K.Kind.word items.now) from (words list.old) }
         ensures rest { past list.new ≡ past list.old }
     {
-        // By slice and index, as is asked for.
+        // By slice and index.
         for (k, item) in items.iter().enumerate() {
             Self::write_word(list, from + k as u64, K::to_word(*item));
         }
@@ -64,8 +64,8 @@ pub struct Bank<'a, E> {
     pub lent: &'a mut [E],
 }
 
-/// Copies the n words from an address on to those from a lower one on, the first first. The list is at hand here and not behind a store, so that no turn reads again
-/// where it lies and how long it is.
+/// Copies the n words from an address on to those from a lower one on, the first first. The list is at hand here and not behind a store,
+/// so that no turn reads again where it lies and how long it is.
 #[tactic(auto, using(crate::proofs::Moved::copied_next, crate::proofs::Moved::copied_none, crate::proofs::Moved::length_copied))]
 fn copy_within<E: Lendable>(list: &mut [E], from: u64, to: u64, n: u64)
     requires { (to ≤ from) × (n ≤ length (E.Lendable.words list.old) - from) }

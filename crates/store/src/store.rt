@@ -92,7 +92,7 @@ pub trait Store {
         ensures after { words self.new ≡ laid (map K.Kind.word items.now) from (words self.old) }
         ensures rest { rest self.new ≡ rest self.old }
     {
-        // By slice and index, as is asked for.
+        // By slice and index.
         for (k, item) in items.iter().enumerate() {
             let _ = self.set(from + k as u64, K::to_word(*item));
         }
