@@ -32,11 +32,13 @@ impl Lendable for u64 {
         list[at as usize] = word;
     }
 
+    #[tactic(auto, using(crate::specs::Members::length_lent))]
     fn read_items<K: Kind>(list: &[u64], from: u64, items: &mut [K::Item]) {
         let from = from as usize;
         K::from_words(&list[from..from + items.len()], items);
     }
 
+    #[tactic(auto, using(crate::specs::Members::length_lent))]
     fn write_items<K: Kind>(list: &mut [u64], from: u64, items: &[K::Item]) {
         let from = from as usize;
         K::to_words(items, &mut list[from..from + items.len()]);

@@ -1,19 +1,9 @@
 use Rattle.std.proofs.Common.{◌≡◌, ◌+◌, ◌-◌, map, length, ◌∙◌, ap, arith}
-use Rattle.store.specs.Members.{length_lent}
 use Rattle.store.specs.Edits.{part}
 use Rattle.store.specs.Words.{Fit}
 use Rattle.store.proofs.Fronts.{lent_part}
 use Rattle.store.proofs.Items.{part_fit, words_again}
 use Rattle.store.proofs.word_bank.U64Lendable.read_items.Goals as goal
-
-pub overflow_add-from : goal.overflow_add-from
-overflow_add-from g c = omega (arith, c.requires, length_lent c.args.list.now)
-
-pub offset_bounds-list-from : goal.offset_bounds-list-from
-offset_bounds-list-from g c = omega (arith, c.requires, length_lent c.args.list.now)
-
-pub slice_bounds-from_words-end : goal.slice_bounds-from_words-end
-slice_bounds-from_words-end g c = omega (arith, c.requires, length_lent c.args.list.now)
 
 pub returns : goal.returns
 returns g c =

@@ -7,15 +7,6 @@ use Rattle.store.proofs.Items.{laid_fit, put_laid}
 use Rattle.store.specs.Words.{Fit, beyond, lent_words}
 use Rattle.store.proofs.word_bank.U64Lendable.write_items.Goals as goal
 
-pub overflow_add-from : goal.overflow_add-from
-overflow_add-from g c = omega (arith, c.requires, length_lent c.args.list.now)
-
-pub offset_bounds-list-from : goal.offset_bounds-list-from
-offset_bounds-list-from g c = omega (arith, c.requires, length_lent c.args.list.now)
-
-pub slice_bounds-to_words-end : goal.slice_bounds-to_words-end
-slice_bounds-to_words-end g c = omega (arith, c.requires, length_lent c.args.list.now)
-
 pub returns-clause-after : goal.returns-clause-after
 returns-clause-after g c =
     let ws = c.args.list.now in
