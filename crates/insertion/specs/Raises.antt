@@ -1,5 +1,5 @@
 -- What moving blocks up does to a list of words.
-use Rattle.std.specs.Prelude.{◌≡◌, ℕ, zero, suc, ◌+◌, ◌-◌, ◌<◌, ◌≤◌, cond, List, nat_lt, slice_index, slice_set}
+use Rattle.std.specs.Prelude.{◌≡◌, ℕ, ◌+◌, ◌-◌, ◌<◌, ◌≤◌, cond, List, nat_lt, slice_index, slice_set}
 use Rattle.layout.specs.Arrangement.{Arrangement, Piece, blocks}
 use Rattle.layout.specs.Gaps.{a_gap}
 use Rattle.layout.specs.Holds.{Displays}

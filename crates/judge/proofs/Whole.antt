@@ -1,6 +1,6 @@
 -- The passes together tell whether a list holds together.
-use Rattle.std.proofs.Common.{◌≡◌, ℕ, zero, suc, ◌+◌, ◌*◌, ◌^◌, ◌<◌, ◌≤◌, Bool, List, [], ◌∷◌, map, length, get_or, Some, sym, refl, ap, ◌∙◌, subst, arith}
-use Rattle.layout.specs.Arrangement.{Arrangement, Codes, Data, Piece, Placed, Vacant, blocks, pieces}
+use Rattle.std.proofs.Common.{◌≡◌, ℕ, suc, ◌+◌, ◌*◌, ◌^◌, ◌<◌, ◌≤◌, Bool, List, [], ◌∷◌, map, length, get_or, Some, sym, refl, ap, ◌∙◌, subst, arith}
+use Rattle.layout.specs.Arrangement.{Arrangement, Piece, blocks, pieces}
 use Rattle.layout.specs.Holds.{Chain, Displays, Holds, Shows}
 use Rattle.layout.specs.Sound.{Each, Good, Sound}
 use Rattle.layout.specs.Words.{first_of, total}
