@@ -3,7 +3,7 @@ use crate::laid::{gap, row, stands, two_rows};
 use booking::{Refusal, Shape, Trace, Vouchers, Words};
 use keeper::Keeper;
 use std::test::Fail;
-use store::WordBank;
+use store::{Store, WordBank};
 
 // No elements from 0 on, of a type.
 fn none_of(codes: bool, kind: u64) -> Shape {
@@ -54,18 +54,24 @@ fn refused_at_each_door(rt: HostRuntime) -> Result<(), Fail> {
     Ok(())
 }
 
+// Tables of one element from -5 on under name 64, three one below the other. Answers the place below the last.
+fn three_tables<S: Store>(keeper: &mut Keeper<S>) -> Result<Trace, Refusal> {
+    keeper.make()?;
+    let mut trace = Trace::new(64)?;
+    for _ in 0..3 {
+        keeper.take(&trace, Shape::table(-5, 1))?;
+        trace = trace.down(-5)?;
+    }
+    Ok(trace)
+}
+
 #[test]
-fn tables_in_tables(rt: HostRuntime) -> Result<(), Fail> {
+fn no_table_below_the_third(rt: HostRuntime) -> Result<(), Fail> {
     let mut words = [9u64; 80];
     let mut keeper = Keeper {
         store: WordBank { lent: &mut words },
     };
-    assert_eq!(rt; keeper.make(), Ok(()));
-    let mut trace = Trace::new(64)?;
-    for _ in 0..3 {
-        assert_eq!(rt; keeper.take(&trace, Shape::table(-5, 1)), Ok(()));
-        trace = trace.down(-5)?;
-    }
+    let trace = three_tables(&mut keeper)?;
     assert_eq!(rt;
         keeper.take(&trace, Shape::table(-5, 1)),
         Err(Refusal::BadField)
@@ -75,6 +81,17 @@ fn tables_in_tables(rt: HostRuntime) -> Result<(), Fail> {
         keeper.take(&Trace::new(64)?.down(-4)?, none_of(true, 1)),
         Err(Refusal::OutOfBounds(1))
     );
+    assert_eq!(rt; keeper.take(&trace, Shape::row::<Vouchers>(-5, 1)), Ok(()));
+    Ok(())
+}
+
+#[test]
+fn tables_in_tables(rt: HostRuntime) -> Result<(), Fail> {
+    let mut words = [9u64; 80];
+    let mut keeper = Keeper {
+        store: WordBank { lent: &mut words },
+    };
+    let trace = three_tables(&mut keeper)?;
     assert_eq!(rt; keeper.take(&trace, Shape::row::<Vouchers>(-5, 1)), Ok(()));
     assert_eq!(rt; keeper.free(&Trace::new(64)?), Ok(()));
     stands(

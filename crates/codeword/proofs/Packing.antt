@@ -4,7 +4,7 @@ use Rattle.std.proofs.lemmas.Bool.{cond-true, cond-false, lt-ltb, le-ltb}
 use Rattle.codeword.specs.Codeword.{bit, bits16, signed16, field, InWidth, packed, unpacked}
 use Rattle.codeword.specs.declared.Codeword.{Codeword}
 
-bit_lt : (b : Bool) → bit b < 2
+pub bit_lt : (b : Bool) → bit b < 2
 bit_lt true = omega arith
 bit_lt false = omega arith
 

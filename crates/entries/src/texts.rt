@@ -23,21 +23,12 @@ impl fmt::Display for Deed<'_> {
                 kind,
                 subscript,
                 length,
-            } => write!(
-                f,
-                "read {length} elements from {subscript} on as type {kind}"
-            ),
+            } => row("read", length, subscript, kind, f),
             Deed::WriteRow {
                 kind,
                 subscript,
                 words,
-            } => {
-                let length = words.len();
-                write!(
-                    f,
-                    "write {length} elements from {subscript} on as type {kind}"
-                )
-            }
+            } => row("write", words.len() as u64, subscript, kind, f),
             Deed::Span => write!(f, "ask for its extent"),
             Deed::Insert { subscript, n } => write!(f, "insert {n} before element {subscript}"),
             Deed::Delete { subscript, n } => write!(f, "delete {n} from element {subscript} on"),
@@ -59,6 +50,19 @@ fn take<W: fmt::Write>(shape: Shape, f: &mut fmt::Formatter<W>) -> fmt::Result {
     } else {
         write!(f, "take a row of {length} from {base} on, of type {kind}")
     }
+}
+
+fn row<W: fmt::Write>(
+    verb: &str,
+    length: u64,
+    subscript: i32,
+    kind: u64,
+    f: &mut fmt::Formatter<W>,
+) -> fmt::Result {
+    write!(
+        f,
+        "{verb} {length} elements from {subscript} on as type {kind}"
+    )
 }
 
 impl fmt::Display for Booking<'_> {

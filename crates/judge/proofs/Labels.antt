@@ -7,7 +7,7 @@ use Rattle.std.proofs.lemmas.Bool.Decides.{nat_tests}
 use Rattle.codeword.specs.Codeword.{bit, bits16, field, packed, signed16, unpacked}
 use Rattle.codeword.specs.Lawful.{labels, lawful}
 use Rattle.codeword.specs.declared.Codeword.{Codeword}
-use Rattle.codeword.proofs.Packing.{unpacked_packed}
+use Rattle.codeword.proofs.Packing.{bit_lt, unpacked_packed}
 use Rattle.layout.specs.Words.{labelling}
 use Rattle.judge.specs.Arrays.{coded, count, first, is_label}
 
@@ -123,10 +123,6 @@ base_small : (b : ℤ) → mag b < 2 ^ 15 → bits16 b < 2 ^ 16
 base_small (pos n) h = omega arith
 base_small (negsuc n) h = omega arith
 
-bit_small : (q : Bool) → bit q < 2
-bit_small true = omega arith
-bit_small false = omega arith
-
 labels_yes : (F k : ℕ) (b : ℤ) (q : Bool) (t : ℕ) → 1 ≤ k → t ≤ 2 → (q ≡ true → t ≡ 0) → labels (labelling F k b q t) ≡ true
 labels_yes F k b true t h l p = let z : t ≡ 0 = p refl in grind (arith, nat_tests)
 labels_yes F k b false t h l p = grind (arith, nat_tests)
@@ -145,6 +141,6 @@ label_yes n w s k b q t hn hk hs hi hb ht hq e =
     ap unpacked e ∙ unpacked_packed (labelling (s + 1) k b q t) (omega arith, omega arith, omega arith) (record { sfits = hb }) in
     let f : first w ≡ s + 1 = ap (λ (c : Codeword). c.first) u in
     let g : count w ≡ k = ap (λ (c : Codeword). c.length) u in
-    let small : w < 2 ^ 58 = omega (arith, base_small b hb, bit_small q, e) in
+    let small : w < 2 ^ 58 = omega (arith, base_small b hb, bit_lt q, e) in
     let l : lawful w ≡ true = lawful_yes w small (ap labels u ∙ labels_yes (s + 1) k b q t hk ht hq) in
     (is_label_yes n w l (omega (arith, f)) (omega (arith, f, g)), u)

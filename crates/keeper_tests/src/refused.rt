@@ -139,9 +139,9 @@ fn lengths_refused(rt: HostRuntime) -> Result<(), Fail> {
     Ok(())
 }
 
-// Each refusal of rebasing and exchanging.
+// Each refusal of rebasing.
 #[test]
-fn labels_refused(rt: HostRuntime) -> Result<(), Fail> {
+fn rebase_refused(rt: HostRuntime) -> Result<(), Fail> {
     let mut words = [0u64; 80];
     let mut keeper = Keeper {
         store: WordBank { lent: &mut words },
@@ -160,6 +160,24 @@ fn labels_refused(rt: HostRuntime) -> Result<(), Fail> {
     );
     assert_eq!(rt; keeper.rebase(&table, 32_768), Err(Refusal::BadField));
     assert_eq!(rt; keeper.rebase(&table, i64::MIN), Err(Refusal::BadField));
+    assert_eq!(rt; keeper.rebase(&table, -32_768), Ok(()));
+    assert_eq!(rt;
+        keeper.span(&table.down(-32_768)?),
+        Ok(Some((-1, 2, false, 1)))
+    );
+    Ok(())
+}
+
+// Each refusal of exchanging.
+#[test]
+fn exchange_refused(rt: HostRuntime) -> Result<(), Fail> {
+    let mut words = [0u64; 80];
+    let mut keeper = Keeper {
+        store: WordBank { lent: &mut words },
+    };
+    assert_eq!(rt; table_and_row(&mut keeper), Ok(()));
+    let table = Trace::new(1)?;
+    let none = Trace::new(3)?;
     assert_eq!(rt; keeper.exchange(&none, 0, 1), Err(Refusal::Unlabelled(1)));
     assert_eq!(rt;
         keeper.exchange(&Trace::new(2)?, 0, 9),
@@ -173,11 +191,6 @@ fn labels_refused(rt: HostRuntime) -> Result<(), Fail> {
     assert_eq!(rt; keeper.exchange(&table, 0, 1), Ok(()));
     assert_eq!(rt;
         keeper.span(&Trace::new(1)?.down(1)?),
-        Ok(Some((-1, 2, false, 1)))
-    );
-    assert_eq!(rt; keeper.rebase(&table, -32_768), Ok(()));
-    assert_eq!(rt;
-        keeper.span(&table.down(-32_767)?),
         Ok(Some((-1, 2, false, 1)))
     );
     Ok(())

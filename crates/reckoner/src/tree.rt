@@ -22,17 +22,19 @@ impl Default for Tree {
     }
 }
 
+fn row<W: fmt::Write>(kind: u8, words: &Block<u64>, f: &mut fmt::Formatter<W>) -> fmt::Result {
+    write!(f, "row base {} type {kind}:", words.base)?;
+    for word in &words.items {
+        write!(f, " {word}")?;
+    }
+    Ok(())
+}
+
 impl fmt::Display for Tree {
     fn fmt<W: fmt::Write>(&self, f: &mut fmt::Formatter<W>) -> fmt::Result {
         match self {
             Tree::Nothing => write!(f, "nothing"),
-            Tree::Row { kind, words } => {
-                write!(f, "row base {} type {kind}:", words.base)?;
-                for word in &words.items {
-                    write!(f, " {word}")?;
-                }
-                Ok(())
-            }
+            Tree::Row { kind, words } => row(*kind, words, f),
             Tree::Table(trees) => {
                 write!(f, "table base {}:", trees.base)?;
                 for tree in &trees.items {

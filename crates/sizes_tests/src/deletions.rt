@@ -2,8 +2,9 @@
 use crate::laid::{four_rows, gap, row, stands, table, take_row, two_rows};
 use booking::{Amounts, Refusal, Shape, Trace};
 use keeper::Keeper;
+use std::process::Abort;
 use std::test::Fail;
-use store::WordBank;
+use store::{Store, WordBank};
 
 #[test]
 fn one_of_a_row(rt: HostRuntime) -> Result<(), Fail> {
@@ -44,16 +45,11 @@ fn one_of_a_row(rt: HostRuntime) -> Result<(), Fail> {
     Ok(())
 }
 
-#[test]
-fn two_rows_of_a_table(rt: HostRuntime) -> Result<(), Fail> {
-    let mut words = [9u64; 90];
-    let mut keeper = Keeper {
-        store: WordBank { lent: &mut words },
-    };
-    assert_eq!(rt; four_rows(&mut keeper), Ok(()));
+// The words of a table of four rows before any of them leaves.
+fn stands_before<S: Store>(rt: &impl Abort, keeper: &Keeper<S>) {
     stands(
-        &rt,
-        &keeper,
+        rt,
+        keeper,
         &[
             (3, table(66, 4)),
             (65, 3),
@@ -68,6 +64,16 @@ fn two_rows_of_a_table(rt: HostRuntime) -> Result<(), Fail> {
             (0, gap(6, 84)),
         ],
     );
+}
+
+#[test]
+fn two_rows_of_a_table(rt: HostRuntime) -> Result<(), Fail> {
+    let mut words = [9u64; 90];
+    let mut keeper = Keeper {
+        store: WordBank { lent: &mut words },
+    };
+    assert_eq!(rt; four_rows(&mut keeper), Ok(()));
+    stands_before(&rt, &keeper);
     assert_eq!(rt; keeper.delete(&Trace::new(3)?, 2, 2), Ok(()));
     stands(
         &rt,
@@ -92,6 +98,17 @@ fn two_rows_of_a_table(rt: HostRuntime) -> Result<(), Fail> {
             (84, gap(6, 0)),
         ],
     );
+    Ok(())
+}
+
+#[test]
+fn a_row_behind_those_that_leave_is_found(rt: HostRuntime) -> Result<(), Fail> {
+    let mut words = [9u64; 90];
+    let mut keeper = Keeper {
+        store: WordBank { lent: &mut words },
+    };
+    assert_eq!(rt; four_rows(&mut keeper), Ok(()));
+    assert_eq!(rt; keeper.delete(&Trace::new(3)?, 2, 2), Ok(()));
     assert_eq!(rt; keeper.read::<Amounts>(&Trace::new(3)?.down(2)?, 1), Ok(44));
     assert_eq!(rt;
         keeper.read::<Amounts>(&Trace::new(3)?.down(3)?, 1),
@@ -100,19 +117,26 @@ fn two_rows_of_a_table(rt: HostRuntime) -> Result<(), Fail> {
     Ok(())
 }
 
+// Tables of two under name 64, three one below the other, each in the first element of the one above, and a row of two amounts below the
+// last. Answers where the row is.
+fn nested<S: Store>(keeper: &mut Keeper<S>) -> Result<Trace, Refusal> {
+    keeper.make()?;
+    let mut trace = Trace::new(64)?;
+    for _ in 0..3 {
+        keeper.take(&trace, Shape::table(1, 2))?;
+        trace = trace.down(1)?;
+    }
+    take_row(keeper, &trace, 2)?;
+    Ok(trace)
+}
+
 #[test]
 fn a_table_in_a_table(rt: HostRuntime) -> Result<(), Fail> {
     let mut words = [9u64; 90];
     let mut keeper = Keeper {
         store: WordBank { lent: &mut words },
     };
-    assert_eq!(rt; keeper.make(), Ok(()));
-    let mut trace = Trace::new(64)?;
-    for _ in 0..3 {
-        assert_eq!(rt; keeper.take(&trace, Shape::table(1, 2)), Ok(()));
-        trace = trace.down(1)?;
-    }
-    assert_eq!(rt; take_row(&mut keeper, &trace, 2), Ok(()));
+    let trace = nested(&mut keeper)?;
     assert_eq!(rt; keeper.delete(&trace, 1, 1), Ok(()));
     stands(
         &rt,

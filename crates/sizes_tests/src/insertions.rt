@@ -30,7 +30,18 @@ fn two_into_a_row(rt: HostRuntime) -> Result<(), Fail> {
             (74, gap(1, 0)),
         ],
     );
-    // Behind the last, which takes the last free word.
+    Ok(())
+}
+
+#[test]
+fn the_last_free_word(rt: HostRuntime) -> Result<(), Fail> {
+    let mut words = [9u64; 75];
+    let mut keeper = Keeper {
+        store: WordBank { lent: &mut words },
+    };
+    assert_eq!(rt; two_rows(&mut keeper), Ok(()));
+    assert_eq!(rt; keeper.insert(&Trace::new(1)?, 2, 2), Ok(()));
+    // Behind the last element.
     assert_eq!(rt; keeper.insert(&Trace::new(1)?, 6, 1), Ok(()));
     stands(
         &rt,

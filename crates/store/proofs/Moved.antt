@@ -1,5 +1,5 @@
 -- Words moved one after another.
-use Rattle.std.proofs.Common.{◌≡◌, ℕ, zero, suc, ◌+◌, ◌-◌, ◌≤◌, min, List, length, get_or, set, sym, refl, ap, ◌∙◌, inl, inr, add-one, arith}
+use Rattle.std.proofs.Common.{◌≡◌, ℕ, zero, suc, ◌+◌, ◌-◌, ◌<◌, ◌≤◌, min, List, length, get_or, set, sym, refl, ap, ◌∙◌, inl, inr, add-one, arith}
 use Rattle.std.proofs.lemmas.Bool.{cases_lt}
 use Rattle.std.proofs.lemmas.List.{get_or_past, length-set, set_past}
 use Rattle.store.proofs.Copies.{zero_more, zero_none}
@@ -55,18 +55,16 @@ copied_zeros (suc m) a from to ws h =
     ∙ ap (λ (zs : List ℕ). set zs (to + a + m) 0) (copied_zeros m a from to ws h)
     ∙ zeroed_next (copied a from to ws) (to + a) m
 
-pub copied_past : (n a from to : ℕ) (ws us vs : List ℕ) → a ≡ min n (length ws - from) → us ≡ copied a from to ws → vs ≡ zeroed us (to + a) (n - a)
+pub copied_past : (n a from to : ℕ) (ws us vs : List ℕ) → a ≡ min n (length ws - from) → a < n → us ≡ copied a from to ws → vs ≡ zeroed us (to + a) (n - a)
     → vs ≡ copied n from to ws
-copied_past n a from to ws us vs e u v =
-    let all : n - a + a ≡ n = omega (arith, e) in
-    elim (cases_lt a n) [
-      | inl h ↦
-          v ∙ ap (λ (zs : List ℕ). zeroed zs (to + a) (n - a)) u ∙ sym (copied_zeros (n - a) a from to ws (omega (arith, e)))
-          ∙ ap (λ (i : ℕ). copied i from to ws) all
-      | inr h ↦
-          let same : a ≡ n = omega (arith, e) in
-          v ∙ sym (zero_none us (to + a) (min (n - a) (length us - (to + a))) (omega arith)) ∙ u ∙ ap (λ (i : ℕ). copied i from to ws) same
-    ]
+copied_past n a from to ws us vs e h u v =
+    let all : n - a + a ≡ n = omega arith in
+    v ∙ ap (λ (zs : List ℕ). zeroed zs (to + a) (n - a)) u ∙ sym (copied_zeros (n - a) a from to ws (omega (arith, e)))
+    ∙ ap (λ (i : ℕ). copied i from to ws) all
+
+-- where there are as many words, all are copied
+pub copied_there : (n a from to : ℕ) (ws us : List ℕ) → a ≤ n → n ≤ a → us ≡ copied a from to ws → us ≡ copied n from to ws
+copied_there n a from to ws us le ge u = let same : a ≡ n = omega arith in u ∙ ap (λ (i : ℕ). copied i from to ws) same
 
 pub length_lifted : (n from by : ℕ) (ws : List ℕ) → length (lifted n from by ws) ≡ length ws
 unfolding lifted

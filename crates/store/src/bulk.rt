@@ -32,7 +32,9 @@ pub fn copy_down<S: Store>(store: &mut S, from: u64, to: u64, n: u64)
 {
     let there = n.min(left(store, from));
     store.copy_words(from, to, there);
-    clear(store, to + there, n - there);
+    if there < n {
+        clear(store, to + there, n - there);
+    }
 }
 
 /// Copies the n words from an address on up by so many addresses, the last first. Past the last word nothing is written.
