@@ -1,4 +1,4 @@
-use Rattle.std.proofs.Common.{◌-◌, length, arith}
+use Rattle.std.proofs.Common.{arith}
 use Rattle.store.proofs.Moved.{copied_past, copied_there}
 use Rattle.store.proofs.bulk.copy_down.Goals as goal
 
