@@ -1,4 +1,4 @@
-ghost use Rattle.std.specs.Prelude.{◌≡◌, ℕ, ◌+◌, ◌-◌, ◌<◌, ◌≤◌, List, length, map, slice_index, slice_set};
+ghost use Rattle.std.specs.Prelude.{◌≡◌, ℕ, ◌+◌, ◌-◌, ◌<◌, ◌≤◌, List, length, map, nat_lt, slice_index, slice_set};
 ghost use Rattle.store.specs.Edits.{copied, laid, lifted, part, zeros};
 ghost use Rattle.store.specs.Rests.{lent_rest};
 ghost use Rattle.store.specs.Words.{Fit, most};
@@ -23,6 +23,13 @@ pub trait Lendable: Copy {
     /// How many words are counted of a list.
     fn words_in(list: &[Self]) -> u64
         ensures { result ≡ length (words list.now) };
+
+    /// Whether there is a counted word at an address.
+    fn has_word(list: &[Self], at: u64) -> bool
+        ensures { result ≡ nat_lt at (length (words list.now)) }
+    {
+        at < Self::words_in(list)
+    }
 
     /// A counted word of a list.
     fn word_of(list: &[Self], at: u64) -> u64
@@ -103,6 +110,15 @@ fn zero_in<E: Lendable>(list: &mut [E], from: u64, n: u64)
     }
 }
 
+impl<'a, E: Lendable> Bank<'a, E> {
+    /// Whether there is a counted word at an address.
+    fn has_word(&self, at: u64) -> bool
+        ensures { result ≡ nat_lt at (length (E.Lendable.words self.now.lent.now)) }
+    {
+        E::has_word(self.lent, at)
+    }
+}
+
 impl<'a, E: Lendable> Store for Bank<'a, E> {
     ghost words = { λ s. E.words s.lent.now };
 
@@ -117,7 +133,7 @@ impl<'a, E: Lendable> Store for Bank<'a, E> {
     }
 
     fn get(&self, at: u64) -> Result<u64, Refusal> {
-        if at < self.count() {
+        if self.has_word(at) {
             Ok(E::word_of(self.lent, at))
         } else {
             Err(Refusal::OutsideStore(at))
@@ -125,7 +141,7 @@ impl<'a, E: Lendable> Store for Bank<'a, E> {
     }
 
     fn set(&mut self, at: u64, word: u64) -> Result<(), Refusal> {
-        if at < Self::count(self) {
+        if Self::has_word(self, at) {
             E::write_word(self.lent, at, word);
             Ok(())
         } else {

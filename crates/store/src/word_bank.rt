@@ -22,6 +22,12 @@ impl Lendable for u64 {
         (list.len() as u64).min(MOST)
     }
 
+    // Two comparisons, since the lesser of two numbers would be found anew after each word that is written.
+    #[tactic(auto, using(crate::specs::Members::length_lent))]
+    fn has_word(list: &[u64], at: u64) -> bool {
+        at < MOST && at < list.len() as u64
+    }
+
     #[tactic(auto, using(crate::specs::Members::length_lent, crate::proofs::Fronts::lent_word))]
     fn word_of(list: &[u64], at: u64) -> u64 {
         list[at as usize]
