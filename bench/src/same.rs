@@ -232,16 +232,7 @@ fn compared(seed: u64, count: usize, bookings: usize) -> Result<[u32; 13], Strin
 
 /// Plays the lists, and says how many bookings there were.
 pub fn same() -> Result<(), String> {
-    for count in [0, 66] {
-        let (mut ours, mut theirs) = (vec![5; count], vec![5; count]);
-        let made = (
-            Keeper { words: &mut ours }.make(),
-            Plain { words: &mut theirs }.make(),
-        );
-        if made != ((2, 0), (2, 0)) || ours != theirs {
-            return Err(format!("make over {count} words: {made:?}"));
-        }
-    }
+    made_too_small()?;
     let mut numbers = [0; 13];
     let mut played = 0;
     for (seed, count) in [67, 68, 75, 90, 130, 200, 400, 1_024, 4_096, 262_200]
@@ -260,6 +251,26 @@ pub fn same() -> Result<(), String> {
     println!(
         "{played} bookings were played to both: the same answers, and the same words after each"
     );
+    told_numbers(&numbers)
+}
+
+/// Over too few words both refuse to make a keeper, and change nothing.
+fn made_too_small() -> Result<(), String> {
+    for count in [0, 66] {
+        let (mut ours, mut theirs) = (vec![5; count], vec![5; count]);
+        let made = (
+            Keeper { words: &mut ours }.make(),
+            Plain { words: &mut theirs }.make(),
+        );
+        if made != ((2, 0), (2, 0)) || ours != theirs {
+            return Err(format!("make over {count} words: {made:?}"));
+        }
+    }
+    Ok(())
+}
+
+/// Prints how many bookings were granted, and refused by which number. Each number that a call can give must have come.
+fn told_numbers(numbers: &[u32; 13]) -> Result<(), String> {
     print!("granted {}", numbers[0]);
     for (number, times) in numbers.iter().enumerate().skip(2) {
         print!(", refused by {number} {times}");

@@ -63,6 +63,34 @@ fn writes<K: Calls>(keeper: &mut K, places: &[(usize, i32)]) -> f64 {
     time / places.len() as f64
 }
 
+fn vector_reads(rows: &[Vec<u64>], places: &[(usize, i32)]) -> f64 {
+    let time = nanoseconds(|| {
+        for (row, element) in places {
+            black_box(
+                black_box(rows)
+                    .get(*row)
+                    .and_then(|list| list.get(*element as usize))
+                    .copied(),
+            );
+        }
+    });
+    time / places.len() as f64
+}
+
+fn vector_writes(rows: &mut [Vec<u64>], places: &[(usize, i32)]) -> f64 {
+    let time = nanoseconds(|| {
+        for (row, element) in places {
+            if let Some(word) = black_box(&mut *rows)
+                .get_mut(*row)
+                .and_then(|list| list.get_mut(*element as usize))
+            {
+                *word = *row as u64;
+            }
+        }
+    });
+    time / places.len() as f64
+}
+
 fn elements(count: usize, lines: &mut Vec<Line>) {
     let ready = laid(count, &equal_rows(count, 16, 0));
     let places = places(ready.rows.len());
@@ -74,19 +102,7 @@ fn elements(count: usize, lines: &mut Vec<Line>) {
         &mut [
             &mut || reads(&mut Keeper { words: &mut ours }, &places),
             &mut || reads(&mut Plain { words: &mut theirs }, &places),
-            &mut || {
-                let time = nanoseconds(|| {
-                    for (row, element) in &places {
-                        black_box(
-                            black_box(&rows)
-                                .get(*row)
-                                .and_then(|list| list.get(*element as usize))
-                                .copied(),
-                        );
-                    }
-                });
-                time / places.len() as f64
-            },
+            &mut || vector_reads(&rows, &places),
         ],
     ));
     lines.push(line(
@@ -96,19 +112,7 @@ fn elements(count: usize, lines: &mut Vec<Line>) {
         &mut [
             &mut || writes(&mut Keeper { words: &mut ours }, &places),
             &mut || writes(&mut Plain { words: &mut theirs }, &places),
-            &mut || {
-                let time = nanoseconds(|| {
-                    for (row, element) in &places {
-                        if let Some(word) = black_box(&mut rows)
-                            .get_mut(*row)
-                            .and_then(|list| list.get_mut(*element as usize))
-                        {
-                            *word = *row as u64;
-                        }
-                    }
-                });
-                time / places.len() as f64
-            },
+            &mut || vector_writes(&mut rows, &places),
         ],
     ));
 }
@@ -132,6 +136,25 @@ fn row_writes<K: Calls>(keeper: &mut K, list: &[u64]) -> f64 {
     time / 512.0
 }
 
+fn vector_row_reads(rows: &[Vec<u64>], list: &mut [u64]) -> f64 {
+    let time = nanoseconds(|| {
+        for _ in 0..512 {
+            list.copy_from_slice(&black_box(rows)[0]);
+            black_box(&mut *list);
+        }
+    });
+    time / 512.0
+}
+
+fn vector_row_writes(rows: &mut [Vec<u64>], list: &[u64]) -> f64 {
+    let time = nanoseconds(|| {
+        for _ in 0..512 {
+            black_box(&mut *rows)[0].copy_from_slice(black_box(list));
+        }
+    });
+    time / 512.0
+}
+
 fn rows_of_a_thousand(count: usize, lines: &mut Vec<Line>) {
     let ready = laid(count, &equal_rows(count, 1_000, 0));
     let (mut ours, mut theirs, mut rows) = (ready.words.clone(), ready.words, ready.rows);
@@ -144,15 +167,7 @@ fn rows_of_a_thousand(count: usize, lines: &mut Vec<Line>) {
         &mut [
             &mut || row_reads(&mut Keeper { words: &mut ours }, &mut lists.0),
             &mut || row_reads(&mut Plain { words: &mut theirs }, &mut lists.1),
-            &mut || {
-                let time = nanoseconds(|| {
-                    for _ in 0..512 {
-                        list.copy_from_slice(&black_box(&rows)[0]);
-                        black_box(&mut list);
-                    }
-                });
-                time / 512.0
-            },
+            &mut || vector_row_reads(&rows, &mut list),
         ],
     ));
     lines.push(line(
@@ -162,14 +177,7 @@ fn rows_of_a_thousand(count: usize, lines: &mut Vec<Line>) {
         &mut [
             &mut || row_writes(&mut Keeper { words: &mut ours }, &list),
             &mut || row_writes(&mut Plain { words: &mut theirs }, &list),
-            &mut || {
-                let time = nanoseconds(|| {
-                    for _ in 0..512 {
-                        black_box(&mut rows)[0].copy_from_slice(black_box(&list));
-                    }
-                });
-                time / 512.0
-            },
+            &mut || vector_row_writes(&mut rows, &list),
         ],
     ));
 }

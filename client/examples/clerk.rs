@@ -102,6 +102,22 @@ fn refusals(keeper: &mut Keeper<'_>) {
     );
 }
 
+/// The last payment's voucher.
+fn payment(keeper: &mut Keeper<'_>) {
+    let paid = Voucher {
+        days: 45990,
+        number: 7,
+    };
+    tell(
+        "Room for a voucher is taken under name 2",
+        &keeper.take(PAYMENT, Shape::row::<Vouchers>(1, 1)),
+    );
+    tell(
+        "The voucher of the payment is written",
+        &keeper.write::<Vouchers>(PAYMENT, 1, paid),
+    );
+}
+
 /// The month itself.
 fn month(keeper: &mut Keeper<'_>) -> Result<(), Refusal> {
     tell(
@@ -133,18 +149,7 @@ fn month(keeper: &mut Keeper<'_>) -> Result<(), Refusal> {
     for customer in 1..=3 {
         show(keeper, customer)?;
     }
-    let paid = Voucher {
-        days: 45990,
-        number: 7,
-    };
-    tell(
-        "Room for a voucher is taken under name 2",
-        &keeper.take(PAYMENT, Shape::row::<Vouchers>(1, 1)),
-    );
-    tell(
-        "The voucher of the payment is written",
-        &keeper.write::<Vouchers>(PAYMENT, 1, paid),
-    );
+    payment(keeper);
     keeper.tidy();
     println!("  The store is tidied; {} words are free.", keeper.total());
     Ok(())
