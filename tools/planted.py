@@ -17,7 +17,7 @@ BEGIN = "<!-- kept: made by tools/planted.py -->"
 END = "<!-- end of what tools/planted.py made -->"
 CRATE = re.compile(r"^([a-z0-9_]+)(?: staticlib)?:")
 FUNCTION = re.compile(r"\bfn (\w+)")
-IMPL = re.compile(r"^impl\b(?:<.*?>)? (?:(?P<trait>\w+)(?:<.*?>)? for )?&?(?P<type>\w+)")
+IMPL = re.compile(r"^impl\b(?:<.*?>)? (?:(?P<trait>\w+)(?:<.*?>)? for )?(?:&(?:'\w+ )?(?:mut )?)?(?P<type>\w+)")
 STRUCT = re.compile(r"^(?:pub(?:\(crate\))? )?(?:struct|enum|const) (\w+)")
 
 

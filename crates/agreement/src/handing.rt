@@ -13,8 +13,8 @@ fn is_tidy_due(every: usize, bookings: usize) -> bool
     bookings.checked_rem(every) == Some(0)
 }
 
-/// What is handed on of a list to which a keeper gave these replies: the bookings that it granted, in order, with a tidy behind each so many
-/// of them, and with none for 0.
+/// What is handed on of a list to which a keeper gave these replies: the bookings that it granted, in order, with a tidy behind each so
+/// many of them, and with none for 0.
 pub fn hand_on<'a>(
     alloc: Global,
     list: &[Entry<'a>],

@@ -1,4 +1,3 @@
-ghost use Rattle.agreement.specs.Runs.{RowNext, words_after};
 ghost use Rattle.agreement.specs.Playing.{Plays};
 ghost use Rattle.layout.specs.Holds.{Holds};
 ghost use Rattle.std.specs.Prelude.{◌≡◌, ◌≤◌, length, vec_capacity, vec_len};

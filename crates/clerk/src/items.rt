@@ -5,7 +5,8 @@ use std::io;
 use store::Store;
 use telling::{element_of, tell};
 
-/// Tells of each name under which something is open how many items either keeper counts there, and under how many names both count the same.
+/// Tells of each name under which something is open how many items either keeper counts there, and under how many names both count the
+/// same.
 pub(crate) fn compare<R: Store, Q: Store>(
     rt: &impl Print,
     receivables: &Keeper<R>,

@@ -1,5 +1,5 @@
-// Elements, rows, bases and exchanges, over words that are laid down by hand and looked at by hand, so that no test leans on the packing that it
-// tests.
+// Elements, rows, bases and exchanges, over words that are laid down by hand and looked at by hand, so that no test leans on the
+// packing that it tests.
 use booking::{Amounts, Refusal, Trace, Words};
 use keeper::Keeper;
 use std::test::Fail;

@@ -4,7 +4,7 @@ ghost use Rattle.entries.specs.Readings.{reply_of};
 ghost use Rattle.layout.specs.Booked.{Books};
 ghost use Rattle.posting.specs.Posted.{Posts};
 
-use booking::{Refusal, Trace};
+use booking::Trace;
 use elements::run;
 use entries::{Answer, Reply};
 use keeper::Keeper;

@@ -1,5 +1,5 @@
 // What is booked, where, and what is answered.
-ghost use Rattle.std.specs.Prelude.{◌≡◌, ◌+◌, ◌≤◌, ◌↔◌, IfOk, IsOk, vec_len};
+ghost use Rattle.std.specs.Prelude.{◌≡◌, ◌≤◌, ◌↔◌, IsOk, vec_len};
 
 use crate::refusal::Refusal;
 use std::alloc::AllocError;

@@ -1,4 +1,4 @@
-// Plain trees, and what is booked at one.
+// Plain trees, and how a booking finds its place in one.
 ghost use Rattle.reckoner.specs.Refusals.{OnRefused};
 ghost use Rattle.std.specs.Prelude.{◌≡◌, ◌<◌, vec_len};
 
