@@ -21,17 +21,22 @@ enum Place {
 }
 
 impl<A: Store, B: Store> Joined<A, B> {
-    /// Where an address lies.
+    /// Where an address lies. Each count is asked once, and the first store's words come first: so the compiler goes straight to a store,
+    /// and makes no number of the answer, to be taken apart again.
+    #[tactic(auto, using(crate::specs::Members::length_row))]
     fn place(&self, at: u64) -> Result<Place, Refusal>
         ensures { Lies (A.Store.words self.now.first) (B.Store.words self.now.second) at result }
     {
         let n = self.first.count();
-        if at >= self.count() {
-            Err(Refusal::OutsideStore(at))
-        } else if at < n {
-            Ok(Place::InFirst(at))
+        let m = self.second.count();
+        if at < n {
+            return Ok(Place::InFirst(at));
+        }
+        let i = at - n;
+        if at < MOST && i < m {
+            Ok(Place::InSecond(i))
         } else {
-            Ok(Place::InSecond(at - n))
+            Err(Refusal::OutsideStore(at))
         }
     }
 }
